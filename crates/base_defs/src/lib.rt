@@ -1,0 +1,2 @@
+//! Definitions of orders, lists in order and printed numbers. It has no code.
+#![tactic(auto)]

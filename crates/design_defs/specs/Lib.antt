@@ -1,0 +1,4 @@
+pub mod Names
+pub mod Ports
+pub mod Walks
+pub mod Chains

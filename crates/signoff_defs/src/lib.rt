@@ -1,0 +1,2 @@
+//! Definitions of what a check watches, finds and reports. It has no code.
+#![tactic(auto)]

@@ -9,7 +9,7 @@ use crate::supplies::Supply;
 use crate::values::Value;
 
 /// A supply set, by the numbers of its supplies.
-#[derive(Clone, Copy, Debug, PartialEq, Eq)]
+#[derive(Clone, Copy, Debug, PartialEq, Eq, Hash)]
 pub struct SupplySet {
     pub power: u32,
     pub ground: Option<u32>,

@@ -14,6 +14,7 @@ mod design;
 mod faults;
 mod intent;
 mod lists;
+mod memory;
 mod model;
 mod names;
 mod netlist;

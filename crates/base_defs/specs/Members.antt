@@ -1,6 +1,9 @@
 -- Which things a list has.
-use Rattle.std.specs.Prelude.{◌≡◌, ℕ, Bool, true, false, not, ◌&&◌, ◌⊎◌, List, [], ◌∷◌}
+use Rattle.std.specs.Prelude.{◌≡◌, ℕ, Bool, true, not, ◌&&◌, ◌⊎◌, List, [], ◌∷◌, Option, None, Some, if◌then◌else◌, nat_eq}
 use Rattle.std.specs.List.{list_any}
+use Rattle.std.specs.Option.{option_map}
+use Rattle.std.specs.Cmp.Lexicographic.{pointwise}
+use Rattle.std.proofs.Common.{suc}
 
 -- x is one of the list
 abbrev pub IsIn : {X : Type 0} → X → List X → Type 0
@@ -11,3 +14,12 @@ IsIn x (y ∷ ys) = (x ≡ y) ⊎ IsIn x ys
 abbrev pub all_differ : {X : Type 0} → (X → X → Bool) → List X → Bool
 all_differ same [] = true
 all_differ same (x ∷ xs) = not (list_any (same x) xs) && all_differ same xs
+
+-- the first place in the list of what passes a test
+abbrev pub place_of : {X : Type 0} → (X → Bool) → List X → Option ℕ
+place_of test [] = None
+place_of test (x ∷ xs) = if test x then Some 0 else option_map suc (place_of test xs)
+
+-- whether two names are the same, byte by byte
+abbrev pub same_name : List ℕ → List ℕ → Bool
+same_name = pointwise nat_eq

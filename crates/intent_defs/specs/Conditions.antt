@@ -1,5 +1,5 @@
 -- When a condition holds of the values that supplies have.
-use Rattle.std.specs.Prelude.{ℕ, ◌+◌, Bool, true, false, not, ◌&&◌, List, nat_lt, nat_eq}
+use Rattle.std.specs.Prelude.{ℕ, ◌+◌, Bool, true, false, not, ◌&&◌, nat_lt, nat_eq}
 use Rattle.std.specs.List.{list_all, list_any}
 use Rattle.pw_defs.specs.declared.values.Value.{Value}
 use Rattle.pw_defs.specs.declared.values.Value.TheVariants.{Off, On}

@@ -1,9 +1,10 @@
 -- All states, and the legal ones among them.
-use Rattle.std.specs.Prelude.{ℕ, ◌*◌, Bool, List, [], ◌∷◌, length, map, filter, slice_index_or}
-use Rattle.std.specs.List.{list_all, flat_map}
+use Rattle.std.specs.Prelude.{◌≡◌, ℕ, ◌*◌, Bool, true, List, [], ◌∷◌, length, map, filter, slice_index_or}
+use Rattle.std.specs.List.{AllZip, list_all, flat_map}
 use Rattle.pw_defs.specs.declared.values.Value.{Value}
 use Rattle.pw_defs.specs.declared.values.Value.TheVariants.{Off}
 use Rattle.pw_defs.specs.declared.conditions.Cond.{Cond}
+use Rattle.base_defs.specs.Members.{IsIn}
 use Rattle.intent_defs.specs.Conditions.{holds}
 
 -- the value of a supply in a state, which has one for each supply in order
@@ -22,6 +23,10 @@ meets conds state = list_all (holds (value_in state)) conds
 -- the states in which all conditions hold
 abbrev pub legal_states : List (List Value) → List Cond → List (List Value)
 legal_states lists conds = filter (meets conds) (all_states lists)
+
+-- a legal state has for each supply one of its values, and all conditions hold in it
+abbrev pub IsLegal : List (List Value) → List Cond → List Value → Type 0
+IsLegal lists conds state = AllZip IsIn state lists × (meets conds state ≡ true)
 
 -- how many states there are
 abbrev pub state_count : List (List Value) → ℕ

@@ -1,5 +1,5 @@
 -- The text of a report, byte by byte. Each line ends with a newline.
-use Rattle.std.specs.Prelude.{ℕ, Bool, true, false, List, [], ◌∷◌, ◌++◌, Option, Some, None, length, codes, decimal}
+use Rattle.std.specs.Prelude.{◌≡◌, ℕ, Bool, true, false, List, [], ◌∷◌, ◌++◌, Option, Some, None, IfSome, length, codes, decimal}
 use Rattle.std.specs.List.{flat_map, zip}
 use Rattle.pw_defs.specs.declared.chains.Kind.{Kind}
 use Rattle.pw_defs.specs.declared.chains.Kind.TheVariants.{IsoMissing, IsoRedundant, IsoSupply, IsoIntent, LsMissing, LsRedundant, LsSupply, LsIntent, Tie}
@@ -38,14 +38,21 @@ abbrev pub witness_text : List (List ℕ) → Option State → List ℕ
 witness_text visible None = []
 witness_text visible (Some state) = codes "  state" ++ supplies_text (zip visible state.values) ++ 10 ∷ []
 
+-- the witness, where there is one, has a value for each visible supply
+abbrev pub HasWholeWitness : List (List ℕ) → Finding → Type 0
+HasWholeWitness visible f = IfSome f.witness (λ state. length state.values ≡ length visible)
+
 abbrev pub forced_text : Bool → List ℕ
 forced_text true = codes " forced"
 forced_text false = []
 
--- KIND RECEIVER from DRIVER, with what follows it
+-- KIND RECEIVER from DRIVER, and whether it is forced
+abbrev pub finding_line : Finding → List ℕ
+finding_line f = kind_text f.kind ++ 32 ∷ f.receiver ++ codes " from " ++ f.driver ++ forced_text f.forced ++ 10 ∷ []
+
+-- the line of a finding, and that of its state
 abbrev pub finding_text : List (List ℕ) → Finding → List ℕ
-finding_text visible f =
-    kind_text f.kind ++ 32 ∷ f.receiver ++ codes " from " ++ f.driver ++ forced_text f.forced ++ 10 ∷ [] ++ witness_text visible f.witness
+finding_text visible f = finding_line f ++ witness_text visible f.witness
 
 -- a word, a number and a newline
 abbrev pub count_text : List ℕ → ℕ → List ℕ

@@ -1,0 +1,4 @@
+pub mod NameLemmas
+pub mod Members
+pub mod Rising
+pub mod TotalOrders

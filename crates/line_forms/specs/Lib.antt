@@ -1,0 +1,9 @@
+pub mod Names
+pub mod Lines
+pub mod LibraryForm
+pub mod NetlistForm
+pub mod ScriptForm
+pub mod Reading
+pub mod LibraryReading
+pub mod NetlistReading
+pub mod ScriptReading

@@ -1,0 +1,4 @@
+pub mod Counts
+pub mod Fetches
+pub mod Puts
+pub mod Kinds

@@ -1,5 +1,5 @@
 -- What one link does to bits.
-use Rattle.std.proofs.Common.{◌≡◌, ℕ, zero, suc, ◌+◌, ◌<◌, ◌≤◌, ◌==◌, Bool, true, false, cond, not, ◌&&◌, ◌||◌, List, [], ◌∷◌, ◌++◌, append_assoc, Option, Some, None, length, map, drop, slice_get, slice_set, slice_index_or, refl, sym, ap, subst, ◌∙◌, arith, add-one, eq-eqb}
+use Rattle.std.proofs.Common.{◌≡◌, ℕ, zero, suc, ◌+◌, ◌<◌, ◌≤◌, ◌==◌, Bool, true, false, cond, not, ◌&&◌, ◌||◌, List, [], ◌∷◌, ◌++◌, append_assoc, Some, None, length, map, drop, slice_get, slice_set, refl, sym, ap, subst, ◌∙◌, arith, add-one, eq-eqb}
 use Rattle.std.proofs.Math.Dec.{eqb-suc-zero, eqb-zero-suc, eqb-suc-suc}
 use Rattle.std.proofs.Math.Seq.{drop-cons}
 use Rattle.std.proofs.lemmas.Bool.{ne_eqb, false≢true, true≢false}
@@ -7,7 +7,6 @@ use Rattle.std.proofs.lemmas.List.{at_drop_all}
 use Rattle.std.proofs.lemmas.Option.{slice_get_within, get_or_from_slice_get}
 use Rattle.std.specs.List.{list_any, list_all, enumerate_from, find}
 use Rattle.pw_defs.specs.declared.design.Bit.{Bit}
-use Rattle.pw_defs.specs.declared.design.Feeder.{Feeder}
 use Rattle.pw_defs.specs.declared.design.Feeder.TheVariants.{Bit as BitFeeder}
 use Rattle.base_defs.specs.Members.{all_differ}
 use Rattle.form_design.specs.Hierarchy.{fed, linked_bits, linked}

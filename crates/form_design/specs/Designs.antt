@@ -1,5 +1,5 @@
 -- The design that a library and a netlist of the first form mean.
-use Rattle.std.specs.Prelude.{◌≡◌, ℕ, ◌==◌, ◌&&◌, Bool, true, false, ◌||◌, List, [], Option, Some, None, map, count_by, is_some, if◌then◌else◌}
+use Rattle.std.specs.Prelude.{ℕ, ◌==◌, ◌&&◌, Bool, true, false, ◌||◌, List, [], Option, Some, None, map, count_by, is_some, if◌then◌else◌}
 use Rattle.pw_defs.specs.declared.cells.Cell.{Cell}
 use Rattle.pw_defs.specs.declared.design.Design.{Design}
 use Rattle.pw_defs.specs.declared.design.Bit.{Bit}
@@ -12,7 +12,7 @@ use Rattle.line_forms.specs.declared.library_lines.PinLine.{PinLine}
 use Rattle.line_forms.specs.declared.library_lines.Role.{Role}
 use Rattle.line_forms.specs.declared.library_lines.Role.TheVariants.{IsolationData, IsolationEnable, ShifterData, ShifterEnable}
 use Rattle.line_forms.specs.declared.netlist_lines.ModuleLines.{ModuleLines}
-use Rattle.base_defs.specs.Members.{same_name, place_of}
+use Rattle.base_defs.specs.Members.{place_of}
 use Rattle.design_defs.specs.Ports.{is_input}
 use Rattle.form_design.specs.declared.hierarchy.Held.{Held}
 use Rattle.form_design.specs.Names.{table_of}

@@ -1,6 +1,6 @@
 -- Which libraries and netlists are of the first form, beside the form of their lines.
-use Rattle.std.specs.Prelude.{ℕ, ◌==◌, Bool, true, false, not, ◌&&◌, ◌||◌, nat_le, List, ◌∷◌, Option, Some, None, map, length, slice_get, slice_index_or, is_some, sum_by, count_by}
-use Rattle.std.specs.List.{flat_map, list_all, list_any, enumerate_from}
+use Rattle.std.specs.Prelude.{ℕ, ◌==◌, Bool, true, false, not, ◌&&◌, ◌||◌, nat_le, List, Option, Some, None, map, length, slice_get, is_some, sum_by, count_by}
+use Rattle.std.specs.List.{list_all, enumerate_from}
 use Rattle.pw_defs.specs.declared.design.Bit.{Bit}
 use Rattle.pw_defs.specs.declared.design.Body.{Body}
 use Rattle.pw_defs.specs.declared.design.Body.TheVariants.{Module, Cell, Model}
@@ -18,7 +18,7 @@ use Rattle.line_forms.specs.declared.netlist_lines.ModuleLines.{ModuleLines}
 use Rattle.base_defs.specs.Members.{same_name, place_of, all_differ}
 use Rattle.design_defs.specs.Ports.{is_output}
 use Rattle.form_design.specs.declared.hierarchy.Held.{Held}
-use Rattle.form_design.specs.Names.{Table, table_of, insts, nets, names, body_named, list_at, ports_of, bits_of}
+use Rattle.form_design.specs.Names.{Table, table_of, insts, names, body_named, list_at, ports_of}
 use Rattle.form_design.specs.Hierarchy.{helds, lines_at, size, links, own_bits}
 
 -- whether something that may not be there passes a test

@@ -1,5 +1,5 @@
 -- The instances at and below the top, and the bits of the design with what feeds them.
-use Rattle.std.specs.Prelude.{ℕ, ◌+◌, ◌==◌, Bool, true, false, ◌&&◌, nat_lt, List, [], ◌∷◌, ◌++◌, Option, Some, None, map, option_map, option_and_then, slice_get, length, slice_index, if◌then◌else◌}
+use Rattle.std.specs.Prelude.{ℕ, ◌+◌, ◌==◌, Bool, false, ◌&&◌, nat_lt, List, [], ◌∷◌, ◌++◌, Option, Some, None, map, option_map, option_and_then, slice_get, length, slice_index, if◌then◌else◌}
 use Rattle.std.specs.List.{filter_map, flat_map, enumerate_from, find}
 use Rattle.pw_defs.specs.declared.design.Bit.{Bit}
 use Rattle.pw_defs.specs.declared.design.Body.{Body}

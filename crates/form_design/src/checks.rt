@@ -1,7 +1,6 @@
 //! Whether the library and the netlist are of the form: roles of cells, connections of instances, and depth.
-ghost use Rattle.std.specs.Prelude.{◌≡◌, ◌==◌, true, false, map, slice_get, count_by, IfOk};
-ghost use Rattle.std.specs.List.{list_all, filter_map, enumerate_from};
-ghost use Rattle.base_defs.specs.Members.{all_differ, same_name};
+ghost use Rattle.std.specs.Prelude.{◌≡◌, count_by, IfOk};
+ghost use Rattle.std.specs.List.{list_all, filter_map};
 ghost use Rattle.form_design.specs.Names.{inst_of, body_named};
 ghost use Rattle.form_design.specs.Fits.{is_data, is_data_pin, is_output_pin, is_plain, has_roles, is_connected, fits_body, is_placed, all_placed, passes, is_plain_cell, holds_plain_cells, is_shallow, top_is_shallow};
 

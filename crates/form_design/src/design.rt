@@ -1,5 +1,5 @@
 //! The design that a library and a netlist of the first form mean.
-ghost use Rattle.std.specs.Prelude.{◌≡◌, ◌≤◌, ◌&&◌, true, false, map, nat_le, length, sum_by, IfOk, IsSomeAnd, MatchOption};
+ghost use Rattle.std.specs.Prelude.{◌≡◌, ◌≤◌, true, false, map, length, sum_by, IfOk, IsSomeAnd, MatchOption};
 ghost use Rattle.std.specs.List.{list_all};
 ghost use Rattle.base_defs.specs.Members.{all_differ, same_name};
 ghost use Rattle.form_design.specs.Names.{table_of, names as names_of};

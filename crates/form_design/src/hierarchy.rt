@@ -1,8 +1,8 @@
 //! The instances at and below the top.
-ghost use Rattle.std.specs.Prelude.{◌≡◌, ◌++◌, ◌≤◌, ◌<◌, Some, None, length, IfOk, OnOk, MatchOption};
+ghost use Rattle.std.specs.Prelude.{◌≡◌, ◌++◌, ◌≤◌, ◌<◌, length, IfOk, OnOk, MatchOption};
 ghost use Rattle.std.specs.List.{filter_map, flat_map, enumerate_from};
-ghost use Rattle.form_design.specs.Names.{inst_of, insts};
-ghost use Rattle.form_design.specs.Hierarchy.{join_of, held_under, lines_at, held_by, helds, children, held_below, top_held};
+ghost use Rattle.form_design.specs.Names.{inst_of};
+ghost use Rattle.form_design.specs.Hierarchy.{join_of, held_under, held_by, helds, children, held_below, top_held};
 ghost use Rattle.design_defs.specs.Names.{joined};
 
 use crate::names::Names;

@@ -12,3 +12,6 @@ mod wiring;
 mod words;
 
 pub use design::{FormDesign, design_of};
+
+#[cfg(test)]
+mod tests;

@@ -1,9 +1,8 @@
 //! The bits of the instances, and the links that connect them.
 ghost use Rattle.std.specs.Prelude.{◌≡◌, ◌+◌, ◌<◌, ◌≤◌, ◌++◌, true, false, ℕ, length, sum_by, slice_get, slice_index, IfOk, IfSome, OnOk, MatchOption, MatchBool, IsTrue};
-ghost use Rattle.std.specs.List.{enumerate_from, flat_map, AllByRecursion};
-ghost use Rattle.form_design.specs.Hierarchy.{size, starts_from, link_of, links_under, links_at, links_with, drives, own_feeder, port_bit, bit_at, bits_at, own_bits, linked_bits};
+ghost use Rattle.std.specs.List.{AllByRecursion};
+ghost use Rattle.form_design.specs.Hierarchy.{size, starts_from, link_of, links_under, links_with, drives, bit_at, bits_at, own_bits, linked_bits};
 ghost use Rattle.form_design.specs.Fits.{is_free, feeds_once};
-ghost use Rattle.design_defs.specs.Ports.{is_input, is_output};
 
 use crate::hierarchy::{Held, joined};
 use crate::names::Names;

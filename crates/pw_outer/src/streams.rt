@@ -27,6 +27,7 @@ impl<W> Model for StreamSink<W> {
 }
 
 impl<W> StreamSink<W> {
+    /// A sink before a writer, which has not failed yet.
     pub fn new(writer: W) -> StreamSink<W>
         ensures { result ≡ record { writer = writer; faults = 0 } }
     {

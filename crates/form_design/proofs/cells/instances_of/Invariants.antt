@@ -1,4 +1,4 @@
-use Rattle.std.proofs.Common.{◌≡◌, ◌++◌, None, map, drop}
+use Rattle.std.proofs.Common.{◌≡◌, ◌++◌, map, drop}
 use Rattle.form_design.specs.Designs.{instance_of}
 use Rattle.form_design.proofs.cells.instances_of.Given as goal
 

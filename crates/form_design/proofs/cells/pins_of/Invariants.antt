@@ -1,4 +1,4 @@
-use Rattle.std.proofs.Common.{◌≡◌, ◌++◌, None, map, drop}
+use Rattle.std.proofs.Common.{◌≡◌, ◌++◌, map, drop}
 use Rattle.pw_defs.specs.declared.cells.Pin.{Pin}
 use Rattle.line_forms.specs.declared.library_lines.PinLine.{PinLine}
 use Rattle.form_design.proofs.cells.pins_of.Given as goal

@@ -1,5 +1,5 @@
 use Rattle.std.proofs.Common.{◌≡◌, drop}
-use Rattle.std.specs.List.{list_all, filter_map}
+use Rattle.std.specs.List.{filter_map}
 use Rattle.form_design.specs.Names.{inst_of}
 use Rattle.form_design.specs.Fits.{holds_plain_cells}
 use Rattle.form_design.proofs.checks.holds_plain_cells.Given as goal

@@ -1,4 +1,4 @@
-use Rattle.std.proofs.Common.{◌≡◌, Bool, true, drop}
+use Rattle.std.proofs.Common.{◌≡◌, true, drop}
 use Rattle.form_design.specs.Hierarchy.{linked_bits}
 use Rattle.form_design.specs.Fits.{feeds_once}
 use Rattle.form_design.proofs.wiring.connect.Given as goal

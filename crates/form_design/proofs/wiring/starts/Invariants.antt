@@ -1,4 +1,4 @@
-use Rattle.std.proofs.Common.{◌≡◌, ◌+◌, ◌++◌, ◌≤◌, drop, take, sum_by}
+use Rattle.std.proofs.Common.{◌≡◌, ◌+◌, ◌++◌, ◌≤◌, drop, sum_by}
 use Rattle.form_design.specs.Hierarchy.{size, starts_from}
 use Rattle.form_design.proofs.wiring.starts.Given as goal
 

@@ -1,0 +1,122 @@
+//! Whether a legal state shows what is watched on a chain, and the finding that it makes.
+ghost use Rattle.std.specs.Prelude.{◌≡◌, map, IfOk};
+ghost use Rattle.std.specs.List.{find};
+ghost use Rattle.std.specs.Option.{option_copied};
+ghost use Rattle.intent_defs.specs.Conditions.{is_on, holds};
+ghost use Rattle.intent_defs.specs.States.{value_in};
+ghost use Rattle.signoff_defs.specs.Watches.{set_on, isolation_missing, set_of};
+ghost use Rattle.signoff_defs.specs.Findings.{bit_name};
+ghost use Rattle.checks.specs.Ends.{ends_of};
+ghost use Rattle.checks.specs.Judging.{shown_by, missing_on, findings_of};
+
+use crate::chain_ends::ChainEnds;
+use pw_defs::{Design, Finding, Intent, Kind, List, Memory, Name, State, SupplySet, Value};
+use std::alloc::Global;
+
+/// Whether a supply is on in a state.
+fn is_on(state: &[Value], supply: u32) -> bool
+    ensures { result ≡ is_on (value_in state.now supply) }
+{
+    match state.get(supply as usize) {
+        Some(Value::On(_)) => true,
+        Some(Value::Off) | None => false,
+    }
+}
+
+/// Whether a set is on: its power, and its ground if it has one.
+#[tactic(auto, using(intent_defs::proofs::Meaning::holding))]
+fn set_is_on(state: &[Value], set: SupplySet) -> bool
+    ensures { result ≡ holds (value_in state.now) (set_on set) }
+{
+    match set.ground {
+        Some(supply) => is_on(state, set.power) && is_on(state, supply),
+        None => is_on(state, set.power),
+    }
+}
+
+/// Whether isolation is missing in a state between these sets of a driver and a receiver.
+#[tactic(auto, using(intent_defs::proofs::Meaning::holding))]
+fn shows(state: &[Value], driver: SupplySet, receiver: SupplySet) -> bool
+    ensures { result ≡ holds (value_in state.now) (isolation_missing driver receiver) }
+{
+    !set_is_on(state, driver) && set_is_on(state, receiver)
+}
+
+/// The first of the states in which isolation is missing between these sets.
+fn first_shown(states: &[State], driver: SupplySet, receiver: SupplySet) -> Option<&State>
+    ensures { option_copied result ≡ find (λ s. holds (value_in s.values) (isolation_missing driver receiver)) states.now }
+{
+    for state in states {
+        if shows(state.values.as_slice(), driver, receiver) {
+            return Some(state);
+        }
+    }
+    None
+}
+
+/// The set of a leaf cell, or of a port of the top.
+fn set_of(intent: &Intent, inst: u32) -> Option<SupplySet>
+    ensures { result ≡ set_of intent.now inst }
+{
+    let domain = intent.domain_of.get(inst)?;
+    let domain = intent.domains.get(*domain)?;
+    Some(domain.primary)
+}
+
+/// The name of a bit.
+fn bit_name(alloc: Global, design: &Design, bit: u32) -> Result<Name, Memory>
+    ensures { IfOk result (λ name. name ≡ bit_name design.now bit) }
+{
+    match design.bits.get(bit) {
+        Some(bit) => Ok(bit.name.clone()?),
+        None => Ok(Name::from_slice(alloc, &[])?),
+    }
+}
+
+/// The first of the states that shows what is watched on a chain.
+fn shown_by<'a>(intent: &Intent, states: &'a [State], ends: &ChainEnds) -> Option<&'a State>
+    ensures { option_copied result ≡ shown_by intent.now states.now (ends_of ends.now) }
+{
+    let driver = set_of(intent, ends.driver.inst)?;
+    let receiver = set_of(intent, ends.receiver.inst)?;
+    first_shown(states, driver, receiver)
+}
+
+/// The finding that isolation is missing on a chain, as a state shows.
+fn missing_on(
+    alloc: Global,
+    design: &Design,
+    ends: &ChainEnds,
+    state: &State,
+) -> Result<Finding, Memory>
+    ensures { IfOk result (λ finding. finding ≡ missing_on design.now (ends_of ends.now) state.now) }
+{
+    Ok(Finding {
+        kind: Kind::IsoMissing,
+        receiver: bit_name(alloc, design, ends.receiver_bit)?,
+        driver: bit_name(alloc, design, ends.driver_bit)?,
+        forced: false,
+        witness: Some(State {
+            values: List::from_slice(alloc, state.values.as_slice())?,
+        }),
+    })
+}
+
+/// The findings of the chains, in their order.
+pub(crate) fn findings_of(
+    alloc: Global,
+    design: &Design,
+    intent: &Intent,
+    states: &[State],
+    chains: &[ChainEnds],
+) -> Result<Vec<Finding>, Memory>
+    ensures { IfOk result (λ found. found.items ≡ findings_of design.now intent.now states.now (map ends_of chains.now)) }
+{
+    let mut found = Vec::new(alloc);
+    for ends in chains {
+        if let Some(state) = shown_by(intent, states, ends) {
+            found.push(missing_on(alloc, design, ends, state)?)?;
+        }
+    }
+    Ok(found)
+}

@@ -1,0 +1,5 @@
+pub mod Answers
+pub mod Diagrams
+pub mod Parts
+pub mod Rests
+pub mod Sets

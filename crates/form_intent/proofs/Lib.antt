@@ -1,0 +1,9 @@
+mod LineLemmas
+mod ListLemmas
+mod PlaceLemmas
+mod ValueLemmas
+mod IndexLemmas
+mod ElementLemmas
+mod FitLemmas
+mod SoundLemmas
+mod AssemblyLemmas

@@ -1,0 +1,9 @@
+pub mod Script
+pub mod Fits
+pub mod Intent
+pub mod Made
+pub mod Sets
+pub mod Elements
+pub mod Sound
+pub mod Parts
+pub mod Laws

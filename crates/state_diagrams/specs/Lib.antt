@@ -1,0 +1,5 @@
+pub mod Joins
+pub mod Masks
+pub mod Nodes
+pub mod Pools
+pub mod Remembered

@@ -1,0 +1,10 @@
+//! A shared table of nodes. Each number of it means a set of rests of states, equal sets have one number, and the
+//! operations on sets remember their results.
+#![tactic(auto)]
+
+mod joins;
+mod literals;
+mod nodes;
+mod pool;
+
+pub use pool::Pool;

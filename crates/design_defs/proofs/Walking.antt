@@ -57,16 +57,18 @@ off_walk : (bits : List Bit) (m : ℕ) (n : ℕ) (p : List ℕ) (e : Feeder) →
     → ((q : List ℕ) (f : Feeder) → IsWalk bits m q f → length p < length q) → AllByRecursion (λ y. eqb m y ≡ false) p
 off_walk bits m _ _ _ (IsWalk.ends n end e none) longer = (off_start bits m n (n ∷ []) end (IsWalk.ends n end e none) longer, tt)
 off_walk bits m _ _ _ (IsWalk.goes n next f end rest e more walk) longer = (
-    off_start bits m n (n ∷ rest) end (IsWalk.goes n next f end rest e more walk) longer,
-    off_walk bits m next rest end walk (λ q g w. omega (arith, longer q g w)))
+  off_start bits m n (n ∷ rest) end (IsWalk.goes n next f end rest e more walk) longer,
+  off_walk bits m next rest end walk (λ q g w. omega (arith, longer q g w)),
+)
 
 -- a walk passes no bit twice
 distinct : (bits : List Bit) (n : ℕ) (p : List ℕ) (e : Feeder) → IsWalk bits n p e → IsDistinct eqb p
 unfolding IsDistinct
 distinct bits _ _ _ (IsWalk.ends n end e none) = (tt, tt)
 distinct bits _ _ _ (IsWalk.goes n next f end rest e more walk) = (
-    off_walk bits n next rest end walk (λ q g w. omega (arith, ap length (one_walk bits n n (n ∷ rest) q end g refl (IsWalk.goes n next f end rest e more walk) w).0)),
-    distinct bits next rest end walk)
+  off_walk bits n next rest end walk (λ q g w. omega (arith, ap length (one_walk bits n n (n ∷ rest) q end g refl (IsWalk.goes n next f end rest e more walk) w).0)),
+  distinct bits next rest end walk,
+)
 
 -- a walk is no longer than there are bits
 pub length_walk : (bits : List Bit) (n : ℕ) (p : List ℕ) (e : Feeder) → IsWalk bits n p e → length p ≤ length bits

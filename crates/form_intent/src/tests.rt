@@ -29,7 +29,9 @@ const VA: [(&str, Value); 2] = [("off", Value::Off), ("on", Value::On(800_000))]
 const VB: [(&str, Value); 1] = [("on", Value::On(800_000))];
 
 const ON: [(&str, Value); 1] = [("on", Value::On(900_000))];
+
 const LOW: [(&str, Value); 1] = [("low", Value::On(900_000))];
+
 const VSS: [(&str, Value); 1] = [("gnd", Value::On(0))];
 
 /// A script over the instances u_a, u_b and u_c, with a line more or less.

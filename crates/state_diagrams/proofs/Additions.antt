@@ -1,12 +1,12 @@
 -- A table with a further node.
-use Rattle.std.proofs.Common.{◌≡◌, ◌≢◌, ℕ, zero, suc, ◌+◌, ◌≤◌, ◌<◌, Bool, true, false, ◌⊎◌, List, [], ◌∷◌, ◌++◌, Option, Some, None, length, get_or, refl, sym, ap, ◌∙◌, subst, inl, inr, arith, length-append, append-nil, Result, Ok, Err, IfOk, OnErr}
+use Rattle.std.proofs.Common.{◌≡◌, ℕ, ◌+◌, ◌≤◌, ◌<◌, List, [], ◌∷◌, ◌++◌, Some, length, get_or, refl, sym, ap, ◌∙◌, subst, inl, inr, arith, append-nil, Result, Ok, Err, IfOk, OnErr}
 use Rattle.std.specs.List.{slice_get}
 use Rattle.std.proofs.lemmas.List.{length_push}
 use Rattle.std.proofs.lemmas.Bool.{cases_lt}
 use Rattle.std.proofs.lemmas.Option.{slice_get_within, same_Some}
-use Rattle.diagram_defs.specs.Diagrams.{Shape, Diagram, kid, member, HasKid, IsKid, AreKids, IsNode, AreNodes, AreSharp, IsPool, IsSet, IsNumberFor, Grows}
-use Rattle.diagram_defs.proofs.Growth.{slice_get_front, slice_get_last, IsKid-append, Grows_refl}
-use Rattle.state_diagrams.specs.Nodes.{IsAbsent, IsNumberOf, IsPut}
+use Rattle.diagram_defs.specs.Diagrams.{Shape, Diagram, HasKid, IsNode, AreNodes, AreSharp, IsPool, Grows}
+use Rattle.diagram_defs.proofs.Growth.{slice_get_front, slice_get_last, IsKid-append}
+use Rattle.state_diagrams.specs.Nodes.{IsAbsent, IsPut}
 
 IsNode-append : (arities : List ℕ) (nodes more : List Shape) (places : ℕ) (shape : Shape) → IsNode arities nodes places shape → IsNode arities (nodes ++ more) places shape
 IsNode-append arities nodes more places shape is = record {

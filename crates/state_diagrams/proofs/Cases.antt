@@ -1,13 +1,13 @@
 -- The set that has behind each value of a level the set of a number.
-use Rattle.std.proofs.Common.{◌≡◌, ◌≢◌, ℕ, zero, suc, ◌+◌, ◌-◌, ◌≤◌, ◌<◌, Bool, true, false, ◌⊎◌, List, [], ◌∷◌, ◌++◌, Option, Some, None, length, get_or, refl, sym, ap, ◌∙◌, subst, inl, inr, arith, Result, Ok, Err, IfOk, IfErr, OnErr}
+use Rattle.std.proofs.Common.{◌≡◌, ◌≢◌, ℕ, ◌+◌, ◌-◌, ◌<◌, Bool, true, List, [], ◌∷◌, Some, length, get_or, refl, sym, ap, ◌∙◌, subst, inl, inr, arith, Result, Ok, Err, IfOk, IfErr, OnErr}
 use Rattle.std.specs.List.{slice_get}
 use Rattle.std.proofs.lemmas.List.{get_or_past}
-use Rattle.std.proofs.lemmas.Bool.{cases_lt, ne_eqb, false≢true, cases_eq}
+use Rattle.std.proofs.lemmas.Bool.{cases_lt, ne_eqb, false≢true}
 use Rattle.std.proofs.lemmas.Option.{slice_get_within}
 use Rattle.pw_defs.specs.declared.faults.DiagFault.{DiagFault}
 use Rattle.pw_defs.specs.declared.faults.DiagFault.TheVariants.{Bound, Memory}
-use Rattle.diagram_defs.specs.Diagrams.{Shape, Diagram, kid, member, HasKid, IsKid, AreKids, IsNode, AreNodes, AreSharp, IsPool, IsSet, IsNumberFor, Grows}
-use Rattle.diagram_defs.specs.Diagrams.IsKid.{empty, whole, node}
+use Rattle.diagram_defs.specs.Diagrams.{Shape, Diagram, member, HasKid, AreKids, IsPool, IsSet, IsNumberFor, Grows}
+use Rattle.diagram_defs.specs.Diagrams.IsKid.{empty, node}
 use Rattle.diagram_defs.specs.Sets.{case_set}
 use Rattle.diagram_defs.specs.Parts.{AddsParts, GrowsBy, IsPartOf}
 use Rattle.diagram_defs.specs.Answers.{IsCause}
@@ -15,7 +15,7 @@ use Rattle.diagram_defs.proofs.Meaning.{kid-node, member-empty}
 use Rattle.diagram_defs.proofs.Growth.{member_grows}
 use Rattle.diagram_defs.proofs.Canonical.{inhabited, has_shape}
 use Rattle.diagram_defs.proofs.PartLemmas.{IsPartOf_itself, AddsParts_none}
-use Rattle.state_diagrams.specs.Nodes.{IsAbsent, IsPut, IsRefusal, HasNoKid}
+use Rattle.state_diagrams.specs.Nodes.{IsPut, IsRefusal, HasNoKid}
 use Rattle.state_diagrams.proofs.Additions.{late}
 
 -- a number of the children, also past the last

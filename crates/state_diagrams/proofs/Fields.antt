@@ -1,11 +1,11 @@
 -- What the fields of a table say of the diagram that its users see.
-use Rattle.std.proofs.Common.{◌≡◌, ◌≢◌, ℕ, zero, suc, ◌+◌, ◌-◌, ◌≤◌, ◌<◌, Bool, true, false, ◌⊎◌, List, [], ◌∷◌, ◌++◌, Option, Some, None, map, length, get_or, refl, sym, ap, ◌∙◌, subst, inl, inr, arith}
+use Rattle.std.proofs.Common.{◌≡◌, ℕ, suc, ◌+◌, ◌-◌, ◌≤◌, ◌<◌, List, Option, Some, None, map, length, get_or, refl, ap, ◌∙◌, arith}
 use Rattle.std.specs.List.{slice_get}
 use Rattle.std.specs.Option.{option_map}
 use Rattle.std.proofs.lemmas.List.{length-map}
 use Rattle.std.proofs.lemmas.Option.{slice_get-map, slice_get-get_or}
-use Rattle.diagram_defs.specs.Diagrams.{Shape, Diagram, kids_in, kid, IsKid, IsSet}
-use Rattle.diagram_defs.specs.Diagrams.IsKid.{empty, whole, node}
+use Rattle.diagram_defs.specs.Diagrams.{Shape, Diagram, kids_in, kid, IsSet}
+use Rattle.diagram_defs.specs.Diagrams.IsKid.{node}
 use Rattle.diagram_defs.proofs.Meaning.{kid-node}
 use Rattle.state_diagrams.specs.declared.nodes.Node.{Node}
 use Rattle.state_diagrams.specs.Nodes.{shape}

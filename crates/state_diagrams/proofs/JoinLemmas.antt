@@ -1,5 +1,5 @@
 -- Joins of sets, level by level.
-use Rattle.std.proofs.Common.{◌≡◌, ◌≢◌, ℕ, zero, suc, ◌+◌, ◌-◌, ◌≤◌, ◌<◌, Bool, true, false, not, ◌&&◌, ◌||◌, nat_eq, ◌⊎◌, List, [], ◌∷◌, ◌++◌, max, Option, Some, None, MatchOption, length, get_or, drop, refl, sym, ap, ◌∙◌, subst, inl, inr, arith, Result, Ok, Err, IfOk, IfErr}
+use Rattle.std.proofs.Common.{◌≡◌, ◌≢◌, ℕ, ◌+◌, ◌≤◌, ◌<◌, Bool, true, false, not, ◌&&◌, ◌||◌, nat_eq, ◌⊎◌, List, [], ◌∷◌, max, Option, Some, None, MatchOption, length, get_or, refl, sym, ap, ◌∙◌, subst, inl, inr, arith, Result, Ok, Err, IfOk, IfErr}
 use Rattle.std.specs.Option.{IfSome, IfNone}
 use Rattle.std.proofs.lemmas.List.{drop_all}
 use Rattle.pw_defs.specs.declared.faults.DiagFault.{DiagFault}
@@ -7,9 +7,9 @@ use Rattle.diagram_defs.specs.Parts.{IsPartOf, GrowsBy}
 use Rattle.diagram_defs.specs.Answers.{IsCause}
 use Rattle.diagram_defs.proofs.Canonical.{empty_alone}
 use Rattle.diagram_defs.proofs.PartLemmas.{GrowsBy_wider, refused_wider}
-use Rattle.std.proofs.lemmas.Bool.{cases_lt, cases_eq, and_parts, and_from, cases_Bool, false_from_ne_true, false≢true, or_right, or_cases}
+use Rattle.std.proofs.lemmas.Bool.{cases_lt, cases_eq, and_parts, false_from_ne_true, false≢true, or_right, or_cases}
 use Rattle.diagram_defs.specs.Rests.{is_rest}
-use Rattle.diagram_defs.specs.Diagrams.{Diagram, kid, member, IsKid, AreNodes, IsPool, IsSet, IsNumberFor, AreRests, AreKidsFor, Grows, AreOfOneLevel}
+use Rattle.diagram_defs.specs.Diagrams.{Diagram, kid, member, IsPool, IsSet, IsNumberFor, AreRests, Grows}
 use Rattle.diagram_defs.specs.Diagrams.IsKid.{empty, whole, node}
 use Rattle.diagram_defs.specs.Sets.{full_set, complement_set, and_set, or_set}
 use Rattle.diagram_defs.proofs.Meaning.{member-empty, IsKid-kid, one_level, level_of_one, level_within}

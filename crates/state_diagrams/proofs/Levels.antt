@@ -1,10 +1,10 @@
 -- Sets that look at one level, and sets with any values before a level.
-use Rattle.std.proofs.Common.{◌≡◌, ◌≢◌, ℕ, zero, suc, ◌+◌, ◌-◌, ◌≤◌, ◌<◌, Bool, true, false, not, ◌&&◌, ◌==◌, if◌then◌else◌, ◌⊎◌, List, [], ◌∷◌, ◌++◌, length, get_or, drop, replicate, refl, sym, ap, ◌∙◌, subst, inl, inr, arith}
+use Rattle.std.proofs.Common.{◌≡◌, ℕ, zero, suc, ◌+◌, ◌-◌, ◌≤◌, ◌<◌, Bool, true, false, ◌&&◌, ◌==◌, if◌then◌else◌, List, [], ◌∷◌, length, get_or, drop, replicate, refl, sym, ap, ◌∙◌, subst, inl, inr, arith}
 use Rattle.std.specs.Int.{bit_at}
 use Rattle.std.proofs.lemmas.List.{get_or-replicate, get_or-drop, length-replicate}
-use Rattle.std.proofs.lemmas.Bool.{and_parts, and_from, cases_Bool, cases_lt}
+use Rattle.std.proofs.lemmas.Bool.{and_parts, cases_lt}
 use Rattle.diagram_defs.specs.Rests.{is_rest}
-use Rattle.diagram_defs.specs.Diagrams.{Diagram, kid, member, IsKid, IsPool, IsSet, IsNumberFor, AreRests, AreKidsFor, Grows}
+use Rattle.diagram_defs.specs.Diagrams.{Diagram, member, IsPool, IsNumberFor, AreRests, AreKidsFor, Grows}
 use Rattle.diagram_defs.specs.Diagrams.IsKid.{empty}
 use Rattle.diagram_defs.specs.Sets.{full_set, widened_set, literal_set}
 use Rattle.diagram_defs.specs.Parts.{IsPartOf}
@@ -13,7 +13,7 @@ use Rattle.diagram_defs.proofs.Meaning.{member-empty}
 use Rattle.diagram_defs.proofs.Growth.{IsNumberFor_same}
 use Rattle.diagram_defs.proofs.PartLemmas.{IsPartOf_same}
 use Rattle.diagram_defs.proofs.Steps.{rest_behind, rest_past, rest_short, value_parts}
-use Rattle.state_diagrams.specs.Masks.{choice_set, IsPicked, PicksSome, PicksNone}
+use Rattle.state_diagrams.specs.Masks.{choice_set, IsPicked, PicksNone}
 
 and_none : (m : Bool) → (m && false) ≡ false
 and_none true = refl

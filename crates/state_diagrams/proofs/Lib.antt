@@ -1,5 +1,6 @@
 pub mod Additions
 pub mod Cases
+pub mod EvenTables
 pub mod Fields
 pub mod JoinLemmas
 pub mod Levels

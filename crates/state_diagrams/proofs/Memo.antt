@@ -1,5 +1,5 @@
 -- What the table remembers stays right.
-use Rattle.std.proofs.Common.{◌≡◌, ◌≢◌, ℕ, ◌+◌, ◌<◌, Bool, true, false, cond, ◌&&◌, ◌⊎◌, List, Option, Some, None, refl, sym, ap, ◌∙◌, subst, inl, inr, arith, nat_eq, drop, Result, Ok, Err, OnOk, OnErr}
+use Rattle.std.proofs.Common.{◌≡◌, ℕ, Bool, true, cond, ◌&&◌, List, Option, Some, refl, sym, ap, ◌∙◌, subst, inl, inr, drop, Result, Ok, Err, OnOk, OnErr}
 use Rattle.std.specs.declared.hash.FoldHasher.{FoldHasher}
 use Rattle.std.specs.declared.hash.BuildHasherDefault.{BuildHasherDefault}
 use Rattle.std.specs.HashMap.{HashMap, get, Updates, IsUnchanged}
@@ -7,7 +7,7 @@ use Rattle.std.specs.Map.{lookup}
 use Rattle.std.proofs.lemmas.Bool.{and_parts, eqb-true, cases_Bool}
 use Rattle.std.proofs.lemmas.Option.{same_Some}
 use Rattle.diagram_defs.specs.Rests.{is_rest}
-use Rattle.diagram_defs.specs.Diagrams.{Diagram, member, IsSet, IsNumberFor, Grows}
+use Rattle.diagram_defs.specs.Diagrams.{Diagram, IsSet, Grows}
 use Rattle.diagram_defs.proofs.Growth.{IsSet_grows, member_grows, IsNumberFor_grows, IsNumberFor_same}
 use Rattle.state_diagrams.specs.declared.joins.Task.{Task}
 use Rattle.state_diagrams.specs.declared.joins.Join.{Join}

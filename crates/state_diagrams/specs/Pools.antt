@@ -1,5 +1,4 @@
 -- A table as its users see it, and what holds of its fields.
-use Rattle.std.specs.Prelude.{◌≡◌, ℕ}
 use Rattle.diagram_defs.specs.Diagrams.{Diagram, IsPool}
 use Rattle.state_diagrams.specs.declared.pool.Pool.TheInside.{Inside}
 use Rattle.state_diagrams.specs.Nodes.{shapes}

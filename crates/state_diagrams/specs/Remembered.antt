@@ -1,5 +1,5 @@
 -- Remembered results.
-use Rattle.std.specs.Prelude.{◌≡◌, ℕ, Bool, Some}
+use Rattle.std.specs.Prelude.{◌≡◌, ℕ, Some}
 use Rattle.std.specs.declared.hash.FoldHasher.{FoldHasher}
 use Rattle.std.specs.declared.hash.BuildHasherDefault.{BuildHasherDefault}
 use Rattle.std.specs.HashMap.{HashMap, get}

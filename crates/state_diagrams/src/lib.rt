@@ -6,5 +6,7 @@ mod joins;
 mod literals;
 mod nodes;
 mod pool;
+#[cfg(test)]
+mod tests;
 
 pub use pool::Pool;

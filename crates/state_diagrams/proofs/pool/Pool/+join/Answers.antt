@@ -1,10 +1,10 @@
-use Rattle.std.proofs.Common.{◌≡◌, ◌≤◌, ◌<◌, ◌+◌, ℕ, Bool, List, ◌∷◌, length, get_or, subst, sym, ap, ◌∙◌, refl, arith}
-use Rattle.diagram_defs.specs.Diagrams.{Diagram, IsSet, IsNumberFor, AreKidsFor, Grows, AreRests, kid}
+use Rattle.std.proofs.Common.{◌≡◌, ◌<◌, ◌+◌, ℕ, Bool, List, ◌∷◌, length, get_or, subst, sym, ap, ◌∙◌, arith}
+use Rattle.diagram_defs.specs.Diagrams.{Diagram, IsSet, IsNumberFor, kid}
 use Rattle.diagram_defs.specs.Parts.{GrowsBy, IsPartOf}
 use Rattle.diagram_defs.specs.Sets.{case_set}
 use Rattle.diagram_defs.proofs.PartLemmas.{GrowsBy_none, GrowsBy_step, GrowsBy_same, passed_cause}
 use Rattle.diagram_defs.proofs.Growth.{IsSet_grows, IsNumberFor_same}
-use Rattle.diagram_defs.proofs.Steps.{AreKids_for, AreKidsSo, AreKidsSo_none, AreKidsSo_more, AreKidsSo_all, kids_number, kids_parts, value_parts}
+use Rattle.diagram_defs.proofs.Steps.{AreKids_for, AreKidsSo, AreKidsSo_none, AreKidsSo_more, kids_number, kids_parts, value_parts}
 use Rattle.state_diagrams.specs.Joins.{joined_set}
 use Rattle.state_diagrams.proofs.JoinLemmas.{AreRests_join, join_kid, join_behind}
 use Rattle.state_diagrams.proofs.Memo.{joined_set_grows}

@@ -1,4 +1,4 @@
-use Rattle.std.proofs.Common.{ℕ, List, subst}
+use Rattle.std.proofs.Common.{subst}
 use Rattle.std.proofs.lemmas.Bool.{MatchBool-at_true}
 use Rattle.diagram_defs.specs.Diagrams.{HasKid}
 use Rattle.state_diagrams.specs.Nodes.{HasNoKid}

@@ -1,5 +1,5 @@
-use Rattle.std.proofs.Common.{◌≡◌, ◌≤◌, ℕ, List, get_or, sym, ap, ◌∙◌, rules, arith}
-use Rattle.diagram_defs.specs.Diagrams.{Shape, kid, Diagram}
+use Rattle.std.proofs.Common.{◌≤◌, ℕ, List, get_or, sym, ap, ◌∙◌, arith}
+use Rattle.diagram_defs.specs.Diagrams.{kid, Diagram}
 use Rattle.state_diagrams.proofs.Fields.{kid_there, kid_past}
 use Rattle.state_diagrams.proofs.pool.Pool.child.Goals as goal
 

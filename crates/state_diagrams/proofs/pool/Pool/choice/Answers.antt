@@ -1,7 +1,7 @@
-use Rattle.std.proofs.Common.{◌≡◌, ◌≤◌, ◌<◌, ◌+◌, ℕ, List, Bool, length, get_or, subst, sym, ap, ◌∙◌, refl, arith, Result, Ok, Err, IfOk}
+use Rattle.std.proofs.Common.{◌+◌, ℕ, List, Bool, length, subst, sym, ◌∙◌, refl, Result, Ok, Err, IfOk}
 use Rattle.std.proofs.lemmas.Bool.{MatchBool-at_true, MatchBool-at_false}
 use Rattle.pw_defs.specs.declared.faults.DiagFault.{DiagFault}
-use Rattle.diagram_defs.specs.Diagrams.{Diagram, IsNumberFor, AreKidsFor, member}
+use Rattle.diagram_defs.specs.Diagrams.{IsNumberFor, AreKidsFor}
 use Rattle.diagram_defs.specs.Diagrams.IsKid.{empty}
 use Rattle.diagram_defs.specs.Parts.{GrowsBy, IsPartOf}
 use Rattle.diagram_defs.specs.Sets.{case_set, full_set}

@@ -1,4 +1,4 @@
-use Rattle.std.proofs.Common.{◌≡◌, ◌≢◌, ℕ, max, ap, ◌∙◌, subst, arith}
+use Rattle.std.proofs.Common.{ℕ, max, ap, ◌∙◌, subst, arith}
 use Rattle.diagram_defs.specs.Diagrams.{IsSet}
 use Rattle.diagram_defs.proofs.Meaning.{level_within}
 use Rattle.state_diagrams.proofs.JoinLemmas.{first_found, second_found, level_is}

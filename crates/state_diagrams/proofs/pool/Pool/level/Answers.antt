@@ -1,6 +1,5 @@
-use Rattle.std.proofs.Common.{◌≡◌, ◌≤◌, List, sym, ap, ◌∙◌, subst, rules, arith}
-use Rattle.diagram_defs.specs.Diagrams.{Shape, IsSet, Diagram}
-use Rattle.state_diagrams.specs.declared.nodes.Node.{Node}
+use Rattle.std.proofs.Common.{◌≤◌, sym, ap, arith}
+use Rattle.diagram_defs.specs.Diagrams.{Diagram}
 use Rattle.state_diagrams.proofs.Fields.{level_there}
 use Rattle.state_diagrams.proofs.pool.Pool.level.Goals as goal
 

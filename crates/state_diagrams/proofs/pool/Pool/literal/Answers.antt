@@ -1,4 +1,4 @@
-use Rattle.std.proofs.Common.{◌≡◌, ◌≤◌, ◌<◌, ◌+◌, ℕ, List, Bool, length, ap, ◌∙◌, arith}
+use Rattle.std.proofs.Common.{◌≡◌, ℕ, List, Bool, length}
 use Rattle.diagram_defs.specs.Diagrams.{member}
 use Rattle.diagram_defs.specs.Parts.{GrowsBy, IsPartOf}
 use Rattle.diagram_defs.specs.Sets.{literal_set, widened_set}

@@ -1,6 +1,6 @@
-use Rattle.std.proofs.Common.{◌<◌, List, length, subst, sym, arith}
+use Rattle.std.proofs.Common.{◌<◌, length, subst, sym, arith}
 use Rattle.std.proofs.lemmas.List.{length-map}
-use Rattle.diagram_defs.specs.Diagrams.{Diagram, Grows, IsNode, Shape}
+use Rattle.diagram_defs.specs.Diagrams.{Diagram, Grows, IsNode}
 use Rattle.state_diagrams.specs.Nodes.{shape, shapes}
 use Rattle.state_diagrams.specs.Pools.{diagram_of}
 use Rattle.state_diagrams.proofs.Additions.{Grows_put}

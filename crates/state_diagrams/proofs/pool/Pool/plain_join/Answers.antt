@@ -1,4 +1,4 @@
-use Rattle.std.proofs.Common.{◌≡◌, ℕ, length, sym, ◌∙◌, subst, inl, inr}
+use Rattle.std.proofs.Common.{sym, ◌∙◌, subst, inl, inr}
 use Rattle.diagram_defs.specs.Diagrams.{IsNumberFor}
 use Rattle.state_diagrams.specs.declared.joins.Join.{Join}
 use Rattle.state_diagrams.specs.Joins.{joined_set, IsPlainAnd, IsPlainOr}

@@ -1,4 +1,4 @@
-use Rattle.std.proofs.Common.{ℕ, subst, sym}
+use Rattle.std.proofs.Common.{subst, sym}
 use Rattle.diagram_defs.specs.Diagrams.{Diagram}
 use Rattle.state_diagrams.specs.Pools.{diagram_of}
 use Rattle.state_diagrams.specs.Remembered.{IsRemembered}

@@ -1,9 +1,8 @@
-use Rattle.std.proofs.Common.{◌≡◌, ◌≤◌, ◌<◌, ◌+◌, ◌-◌, ℕ, List, Bool, length, get_or, replicate, subst, sym, ap, ◌∙◌, refl, arith}
-use Rattle.diagram_defs.specs.Diagrams.{Diagram, IsNumberFor, AreKidsFor, member}
+use Rattle.std.proofs.Common.{◌≡◌, ◌<◌, ◌+◌, ◌-◌, ℕ, List, Bool, length, replicate, subst, ap, ◌∙◌, arith}
+use Rattle.diagram_defs.specs.Diagrams.{IsNumberFor, AreKidsFor, member}
 use Rattle.diagram_defs.specs.Parts.{GrowsBy, IsPartOf}
 use Rattle.diagram_defs.specs.Sets.{case_set, widened_set}
 use Rattle.diagram_defs.proofs.PartLemmas.{GrowsBy_none, GrowsBy_step, passed_cause}
-use Rattle.diagram_defs.proofs.Growth.{IsNumberFor_same}
 use Rattle.diagram_defs.proofs.Steps.{AreKids_for, kids_number, kids_parts, AreRests_number}
 use Rattle.state_diagrams.proofs.Levels.{AreRests_widened, widened_up, widened_kids, widened_itself}
 use Rattle.state_diagrams.proofs.pool.Pool.widen.Goals as goal

@@ -1,12 +1,8 @@
 -- The parts of an intent, from those of the script.
-use Rattle.std.proofs.Common.{◌≡◌, ◌≤◌, ℕ, zero, suc, List, [], ◌∷◌, Option, Some, None, length, map, option_map, slice_get, unwrap_or, refl, sym, ap, ◌∙◌, arith}
-use Rattle.std.proofs.lemmas.List.{length-map}
-use Rattle.std.proofs.lemmas.Simd.{map-map}
-use Rattle.std.proofs.lemmas.Slice.Zip.{firsts-zip}
+use Rattle.std.proofs.Common.{◌≡◌, ◌≤◌, ℕ, zero, suc, List, [], ◌∷◌, Option, Some, None, length, map, option_map, slice_get, unwrap_or, refl, ap, ◌∙◌, arith}
 use Rattle.std.proofs.lemmas.List.FromFn.{length-enumerate_from}
 use Rattle.std.specs.List.{cons_option, enumerate_from, filter_map, zip}
 use Rattle.std.specs.Option.{option_and_then}
-use Rattle.pw_defs.specs.declared.intent.Domain.{Domain}
 use Rattle.pw_defs.specs.declared.intent.SupplySet.{SupplySet}
 use Rattle.pw_defs.specs.declared.supplies.Supply.{Supply}
 use Rattle.pw_defs.specs.declared.values.Value.{Value}

@@ -1,28 +1,25 @@
 -- What the parts of an intent owe each other.
-use Rattle.std.proofs.Common.{◌≡◌, ℕ, ◌+◌, ◌<◌, ◌≤◌, true, ◌&&◌, nat_lt, List, [], ◌∷◌, Option, Some, None, length, map, All, IfSome, option_map, slice_get, unwrap_or, refl, sym, ap, subst, ◌∙◌, arith}
+use Rattle.std.proofs.Common.{◌≡◌, ℕ, ◌+◌, ◌<◌, ◌≤◌, true, ◌&&◌, List, [], ◌∷◌, Option, Some, None, length, map, IfSome, option_map, slice_get, unwrap_or, refl, ap, subst, ◌∙◌, arith}
 use Rattle.std.proofs.lemmas.Bool.{lt-ltb}
 use Rattle.std.proofs.lemmas.List.{length-map}
-use Rattle.std.proofs.lemmas.List.Elements.{All-from_recursion, All-map, All-same}
-use Rattle.std.proofs.lemmas.List.Folds.{list_all-map}
+use Rattle.std.proofs.lemmas.List.Elements.{All-from_recursion, All-same}
 use Rattle.std.proofs.lemmas.List.FromFn.{length-enumerate_from}
 use Rattle.std.proofs.lemmas.List.Sorted.{length_permutation}
 use Rattle.std.specs.List.{AllByRecursion, cons_option, enumerate_from, filter_map, list_all}
 use Rattle.std.specs.Option.{option_and_then}
 use Rattle.pw_defs.specs.Values.{value_cmp}
-use Rattle.pw_defs.specs.declared.conditions.Cond.{Cond}
 use Rattle.pw_defs.specs.declared.conditions.Cond.TheVariants.{Is}
 use Rattle.pw_defs.specs.declared.conditions.UnitCond.{UnitCond}
 use Rattle.pw_defs.specs.declared.intent.Domain.{Domain}
 use Rattle.pw_defs.specs.declared.intent.Intent.{Intent}
 use Rattle.pw_defs.specs.declared.intent.RootList.{RootList}
-use Rattle.pw_defs.specs.declared.intent.SupplySet.{SupplySet}
 use Rattle.pw_defs.specs.declared.values.Value.{Value}
 use Rattle.line_forms.specs.declared.script_lines.CommandLine.{CommandLine}
 use Rattle.base_defs.specs.Members.{place_of, same_name}
 use Rattle.base_defs.specs.Orders.{IsRising}
 use Rattle.intent_defs.specs.Conditions.{speaks_below}
 use Rattle.intent_defs.proofs.Meaning.{speaks_any, speaks_is}
-use Rattle.form_intent.specs.Script.{DomainNames, SetNames, cond_of, cond_with, domains_made, nets_made, no_set, root_list, set_named, set_numbers, sets_made, stated, supply_named, supply_of}
+use Rattle.form_intent.specs.Script.{DomainNames, SetNames, cond_of, cond_with, domains_made, nets_made, no_set, root_list, set_named, set_numbers, sets_made, stated, supply_named}
 use Rattle.form_intent.specs.Fits.{script_fits}
 use Rattle.form_intent.specs.Intent.{IsIntentOf, domain_with, supply_names}
 use Rattle.form_intent.specs.Sound.{IsSound, NamesBelow}

@@ -1,16 +1,12 @@
 -- What the lines of a script make: supply nets with their values, supply sets and domains.
-use Rattle.std.specs.Prelude.{ℕ, ◌+◌, Bool, true, false, List, [], ◌∷◌, Option, Some, None, map, option_map, option_and_then, slice_get, unwrap_or, if◌then◌else◌}
+use Rattle.std.specs.Prelude.{ℕ, List, [], ◌∷◌, Option, Some, None, map, option_map, option_and_then, slice_get, unwrap_or, if◌then◌else◌}
 use Rattle.std.specs.Ordering.{match_ordering}
 use Rattle.std.specs.List.{filter_map, flat_map, enumerate_from}
 use Rattle.pw_defs.specs.Values.{value_cmp}
-use Rattle.pw_defs.specs.declared.conditions.Cond.{Cond}
 use Rattle.pw_defs.specs.declared.conditions.Cond.TheVariants.{Any, Is}
 use Rattle.pw_defs.specs.declared.conditions.UnitCond.{UnitCond}
-use Rattle.pw_defs.specs.declared.design.Body.{Body}
-use Rattle.pw_defs.specs.declared.intent.Domain.{Domain}
 use Rattle.pw_defs.specs.declared.intent.RootList.{RootList}
 use Rattle.pw_defs.specs.declared.intent.SupplySet.{SupplySet}
-use Rattle.pw_defs.specs.declared.supplies.Said.{Said}
 use Rattle.pw_defs.specs.declared.supplies.Supply.{Supply}
 use Rattle.pw_defs.specs.declared.supplies.SupplyKind.TheVariants.{Net}
 use Rattle.pw_defs.specs.declared.values.Value.{Value}

@@ -1,5 +1,5 @@
 -- What the parts of an intent owe each other.
-use Rattle.std.specs.Prelude.{◌≡◌, ℕ, ◌<◌, true, Option, All, IfSome, length}
+use Rattle.std.specs.Prelude.{◌≡◌, ℕ, ◌<◌, true, All, IfSome, length}
 use Rattle.pw_defs.specs.Values.{value_cmp}
 use Rattle.pw_defs.specs.declared.intent.Intent.{Intent}
 use Rattle.pw_defs.specs.declared.intent.RootList.{RootList}

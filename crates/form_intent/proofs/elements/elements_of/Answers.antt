@@ -1,5 +1,5 @@
 -- Each line adds its element, or shows that the elements do not fit.
-use Rattle.std.proofs.Common.{◌≡◌, ◌<◌, ◌∙◌, ◌==◌, length, true, sym, ap, arith}
+use Rattle.std.proofs.Common.{◌∙◌, ◌==◌, sym, ap, arith}
 use Rattle.base_defs.specs.Members.{all_differ}
 use Rattle.form_intent.specs.Elements.{line_element}
 use Rattle.form_intent.proofs.LineLemmas.{gained}

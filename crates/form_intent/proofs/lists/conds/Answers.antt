@@ -1,5 +1,5 @@
 -- Each supply has its condition, where it has one.
-use Rattle.std.proofs.Common.{◌≡◌, ◌<◌, ◌∙◌, ◌++◌, [], ◌∷◌, Vec, Global, List, Option, Some, None, option_to_list, length, take, map, sym, ap, arith}
+use Rattle.std.proofs.Common.{◌≡◌, ◌<◌, ◌∙◌, ◌++◌, [], ◌∷◌, Vec, Global, List, option_to_list, length, take, map, sym, ap, arith}
 use Rattle.std.proofs.lemmas.List.{append-nil}
 use Rattle.std.specs.List.{enumerate_from, filter_map}
 use Rattle.pw_defs.specs.declared.values.Value.{Value}

@@ -1,10 +1,9 @@
 -- Each supply has its list, or one has too many values.
-use Rattle.std.proofs.Common.{◌≡◌, ◌<◌, ◌+◌, ◌∙◌, ◌&&◌, ◌++◌, ◌∷◌, [], Bool, true, Vec, Global, List, length, map, take, get_or, nat_le, sym, ap, arith}
+use Rattle.std.proofs.Common.{◌≡◌, ◌<◌, ◌∙◌, ◌&&◌, ◌++◌, ◌∷◌, [], Bool, Vec, Global, List, length, map, take, get_or, nat_le, sym, ap, arith}
 use Rattle.std.proofs.lemmas.List.{length-map, length-take, take_all}
 use Rattle.std.proofs.lemmas.List.Folds.{list_all_more}
 use Rattle.std.proofs.lemmas.List.FromFn.{length-enumerate_from}
 use Rattle.std.specs.List.{enumerate_from, list_all}
-use Rattle.std.specs.Option.{MatchOption}
 use Rattle.pw_defs.specs.declared.values.Value.{Value}
 use Rattle.form_intent.specs.Script.{list_with, values_of}
 use Rattle.form_intent.proofs.IndexLemmas.{map-numbered_more, take_numbered}

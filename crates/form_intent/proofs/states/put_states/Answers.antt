@@ -1,6 +1,5 @@
 -- The states of a line come to its supply alone.
-use Rattle.std.proofs.Common.{◌≡◌, ◌<◌, ◌∙◌, ℕ, cond, List, [], ◌++◌, Vec, Global, Bor, Some, None, length, map, sym, ap, subst, arith}
-use Rattle.line_forms.specs.declared.script_lines.CommandLine.{CommandLine}
+use Rattle.std.proofs.Common.{◌≡◌, ◌∙◌, List, ◌++◌, Vec, Global, Bor, Some, None, map, sym, ap, arith}
 use Rattle.line_forms.specs.declared.script_lines.StateWords.{StateWords}
 use Rattle.base_defs.specs.Members.{place_of, same_name}
 use Rattle.form_intent.specs.Script.{states_on}

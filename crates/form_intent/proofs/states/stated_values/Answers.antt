@@ -1,10 +1,8 @@
 -- The states of each supply are those that the lines state on it.
-use Rattle.std.proofs.Common.{◌≡◌, ◌<◌, ◌∙◌, ℕ, true, ◌&&◌, List, [], ◌∷◌, ◌++◌, Vec, Global, Bor, length, map, take, get_or, sym, ap, arith}
+use Rattle.std.proofs.Common.{◌≡◌, ◌<◌, ◌∙◌, ℕ, ◌&&◌, List, [], ◌∷◌, ◌++◌, Vec, Global, Bor, length, map, take, get_or, sym, ap, arith}
 use Rattle.std.proofs.lemmas.List.{length-map, map_push, map_more}
 use Rattle.std.proofs.lemmas.List.Folds.{list_all_at, list_all_more}
 use Rattle.std.proofs.lemmas.Simd.{map-map}
-use Rattle.std.specs.List.{list_all}
-use Rattle.pw_defs.specs.declared.values.Value.{Value}
 use Rattle.line_forms.specs.declared.script_lines.CommandLine.{CommandLine}
 use Rattle.line_forms.specs.declared.script_lines.StateWords.{StateWords}
 use Rattle.base_defs.specs.Members.{all_differ, same_name}

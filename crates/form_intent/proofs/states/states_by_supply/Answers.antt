@@ -1,6 +1,6 @@
 -- Each line adds its states to those of its supply.
-use Rattle.std.proofs.Common.{◌≡◌, ◌<◌, ◌∙◌, List, [], ◌++◌, Vec, Global, Bor, length, map, take, replicate, get_or, sym, ap, arith}
-use Rattle.std.proofs.lemmas.List.{with_items_is, length-map, length-replicate}
+use Rattle.std.proofs.Common.{◌≡◌, ◌<◌, ◌∙◌, List, [], ◌++◌, Vec, Global, Bor, length, map, take, replicate, sym, ap, arith}
+use Rattle.std.proofs.lemmas.List.{with_items_is}
 use Rattle.line_forms.specs.declared.script_lines.StateWords.{StateWords}
 use Rattle.form_intent.specs.Script.{states_of, states_on}
 use Rattle.form_intent.proofs.LineLemmas.{flat_map_more}

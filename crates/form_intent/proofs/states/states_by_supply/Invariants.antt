@@ -1,4 +1,4 @@
-use Rattle.std.proofs.Common.{◌≡◌, [], map, take, replicate, true}
+use Rattle.std.proofs.Common.{◌≡◌, [], map, take, replicate}
 use Rattle.form_intent.specs.Script.{states_of}
 use Rattle.form_intent.proofs.states.states_by_supply.Given as goal
 

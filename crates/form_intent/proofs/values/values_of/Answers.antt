@@ -1,8 +1,8 @@
 -- There are too many values so far, and none is lost later.
-use Rattle.std.proofs.Common.{◌≡◌, ◌<◌, ◌≤◌, ◌+◌, ◌∙◌, length, drop, sym, ap, arith}
+use Rattle.std.proofs.Common.{◌≡◌, ◌<◌, ◌+◌, ◌∙◌, length, drop, sym, ap, arith}
 use Rattle.std.proofs.lemmas.Bool.{lt-leb}
 use Rattle.std.proofs.lemmas.List.{at_drop_more}
-use Rattle.form_intent.specs.Script.{put_value, put_values, values_of}
+use Rattle.form_intent.specs.Script.{put_values, values_of}
 use Rattle.form_intent.proofs.ValueLemmas.{length-put_values-le}
 use Rattle.form_intent.proofs.values.values_of.Goals as goal
 

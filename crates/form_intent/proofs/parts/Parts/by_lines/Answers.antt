@@ -1,9 +1,8 @@
 -- Each part fits and is what the lines say, or the script does not fit.
-use Rattle.std.proofs.Common.{◌≡◌, ◌∙◌, ℕ, Vec, Global, List, Bool, true, false, nat_le, length, map, sym, ap, arith}
+use Rattle.std.proofs.Common.{◌≡◌, ◌∙◌, Vec, Global, List, Bool, true, nat_le, length, map, sym, ap}
 use Rattle.std.proofs.lemmas.Bool.{le-leb}
 use Rattle.std.specs.List.{enumerate_from, list_all}
 use Rattle.pw_defs.specs.declared.values.Value.{Value}
-use Rattle.base_defs.specs.Members.{all_differ, same_name}
 use Rattle.form_intent.specs.Script.{list_with, nets_made, stated as stated_on, values_of}
 use Rattle.form_intent.specs.Fits.{states_differ, values_fit}
 use Rattle.form_intent.proofs.FitLemmas.{list_all-values, script_fits-all, script_fits-elements, script_fits-names_or_nets, script_fits-states, script_fits-values}

@@ -2,3 +2,4 @@ pub mod Lists
 pub mod Judged
 pub mod Sorting
 pub mod Reports
+pub mod OneReport

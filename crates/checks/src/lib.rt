@@ -15,8 +15,10 @@ ghost use Rattle.checks.specs.Checked.{AreLegal, ListCause, CheckCause};
 mod chain_ends;
 mod copies;
 mod judge;
+mod laws;
 mod report;
 
+pub use laws::one_report;
 use pw_defs::{CheckFault, Design, Intent, List, ListFault, Memory, Report, State};
 use std::alloc::Global;
 

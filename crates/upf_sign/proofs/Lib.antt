@@ -1,2 +1,10 @@
+pub mod Deserved
+pub mod Ends
+pub mod Fetched
+pub mod Finished
 pub mod Meant
+pub mod NineWords
+pub mod OneAnswer
+pub mod Planned
 pub mod Sound
+pub mod Stopped

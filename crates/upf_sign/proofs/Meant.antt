@@ -20,7 +20,7 @@ use Rattle.upf_sign.specs.Answers.{IsJudged, IsAnswer}
 use Rattle.upf_sign.specs.Loaded.{IsRead, HasDesign, HasIntent, IsLoaded, IsDesignRead}
 
 -- lines mean one design
-one_design : (cells : List CellLines) (modules : List ModuleLines) (top : List ℕ) (x y : FormDesign)
+pub one_design : (cells : List CellLines) (modules : List ModuleLines) (top : List ℕ) (x y : FormDesign)
     → IsDesignOf cells modules top x.design x.instances → IsDesignOf cells modules top y.design y.instances → x ≡ y
 one_design cells modules top x y a b =
     let same_top : a.top ≡ b.top = same_Some a.top b.top (sym a.named ∙ b.named) in

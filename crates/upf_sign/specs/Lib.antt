@@ -1,2 +1,11 @@
 pub mod Loaded
 pub mod Answers
+pub mod Words
+pub mod RefusalText
+pub mod Faults
+pub mod Runs
+pub mod Jobs
+pub mod Laws
+pub mod Fetching
+pub mod Planning
+pub mod Telling

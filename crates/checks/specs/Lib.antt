@@ -1,4 +1,5 @@
 pub mod Ends
 pub mod Judging
+pub mod Seen
 pub mod Checked
 pub mod Laws

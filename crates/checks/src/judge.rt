@@ -1,6 +1,5 @@
 //! Whether a legal state shows what is watched on a chain, and the finding that it makes.
-ghost use Rattle.std.specs.Prelude.{◌≡◌, map, IfOk};
-ghost use Rattle.std.specs.List.{find};
+ghost use Rattle.std.specs.Prelude.{◌≡◌, map, option_and_then, slice_get, IfOk};
 ghost use Rattle.std.specs.Option.{option_copied};
 ghost use Rattle.intent_defs.specs.Conditions.{is_on, holds};
 ghost use Rattle.intent_defs.specs.States.{value_in};
@@ -8,10 +7,19 @@ ghost use Rattle.signoff_defs.specs.Watches.{set_on, isolation_missing, set_of};
 ghost use Rattle.signoff_defs.specs.Findings.{bit_name};
 ghost use Rattle.checks.specs.Ends.{ends_of};
 ghost use Rattle.checks.specs.Judging.{shown_by, missing_on, findings_of};
+ghost use Rattle.checks.specs.Seen.{sides_of, IsFirstShown, AreFirstShown};
 
 use crate::chain_ends::ChainEnds;
 use pw_defs::{Design, Finding, Intent, Kind, List, Memory, Name, State, SupplySet, Value};
 use std::alloc::Global;
+use std::collections::HashMap;
+
+/// The sets of a chain's driver and receiver.
+#[derive(Clone, Copy, PartialEq, Eq, Hash)]
+pub(crate) struct Sides {
+    pub driver: SupplySet,
+    pub receiver: SupplySet,
+}
 
 /// Whether a supply is on in a state.
 fn is_on(state: &[Value], supply: u32) -> bool
@@ -34,24 +42,42 @@ fn set_is_on(state: &[Value], set: SupplySet) -> bool
     }
 }
 
-/// Whether isolation is missing in a state between these sets of a driver and a receiver.
+/// Whether isolation is missing in a state between these sets.
 #[tactic(auto, using(intent_defs::proofs::Meaning::holding))]
-fn shows(state: &[Value], driver: SupplySet, receiver: SupplySet) -> bool
-    ensures { result ≡ holds (value_in state.now) (isolation_missing driver receiver) }
+fn shows(state: &[Value], sides: Sides) -> bool
+    ensures { result ≡ holds (value_in state.now) (isolation_missing sides.driver sides.receiver) }
 {
-    !set_is_on(state, driver) && set_is_on(state, receiver)
+    !set_is_on(state, sides.driver) && set_is_on(state, sides.receiver)
 }
 
-/// The first of the states in which isolation is missing between these sets.
-fn first_shown(states: &[State], driver: SupplySet, receiver: SupplySet) -> Option<&State>
-    ensures { option_copied result ≡ find (λ s. holds (value_in s.values) (isolation_missing driver receiver)) states.now }
+/// The place of the first of the states in which isolation is missing between these sets.
+fn first_shown(states: &[State], sides: Sides) -> Option<usize>
+    ensures { IsFirstShown states.now sides result }
 {
-    for state in states {
-        if shows(state.values.as_slice(), driver, receiver) {
-            return Some(state);
+    for (place, state) in states.iter().enumerate() {
+        if shows(state.values.as_slice(), sides) {
+            return Some(place);
         }
     }
     None
+}
+
+/// The same, which goes through the states only where these sets weren't seen before.
+fn first_shown_once(
+    states: &[State],
+    sides: Sides,
+    seen: &mut HashMap<Sides, Option<usize>>,
+) -> Result<Option<usize>, Memory>
+    requires { AreFirstShown states.now seen.old }
+    ensures place { IfOk result (IsFirstShown states.now sides) }
+    ensures seen { AreFirstShown states.now seen.new }
+{
+    if let Some(place) = seen.get(&sides) {
+        return Ok(*place);
+    }
+    let place = first_shown(states, sides);
+    seen.insert(sides, place)?;
+    Ok(place)
 }
 
 /// The set of a leaf cell, or of a port of the top.
@@ -73,13 +99,40 @@ fn bit_name(alloc: Global, design: &Design, bit: u32) -> Result<Name, Memory>
     }
 }
 
-/// The first of the states that shows what is watched on a chain.
-fn shown_by<'a>(intent: &Intent, states: &'a [State], ends: &ChainEnds) -> Option<&'a State>
-    ensures { option_copied result ≡ shown_by intent.now states.now (ends_of ends.now) }
+/// The sets of a chain's ends.
+fn sides_of(intent: &Intent, ends: &ChainEnds) -> Option<Sides>
+    ensures { result ≡ sides_of intent.now (ends_of ends.now) }
 {
     let driver = set_of(intent, ends.driver.inst)?;
     let receiver = set_of(intent, ends.receiver.inst)?;
-    first_shown(states, driver, receiver)
+    Some(Sides { driver, receiver })
+}
+
+/// The first of the states that shows what is watched on a chain.
+fn shown_by<'a>(
+    intent: &Intent,
+    states: &'a [State],
+    ends: &ChainEnds,
+    seen: &mut HashMap<Sides, Option<usize>>,
+) -> Result<Option<&'a State>, Memory>
+    requires { AreFirstShown states.now seen.old }
+    ensures state { IfOk result (λ state. option_copied state ≡ shown_by intent.now states.now (ends_of ends.now)) }
+    ensures seen { AreFirstShown states.now seen.new }
+{
+    match sides_of(intent, ends) {
+        Some(sides) => {
+            let place = first_shown_once(states, sides, seen)?;
+            Ok(state_at(states, place))
+        }
+        None => Ok(None),
+    }
+}
+
+/// The state at a place, if there is one.
+fn state_at(states: &[State], place: Option<usize>) -> Option<&State>
+    ensures { option_copied result ≡ option_and_then (slice_get states.now) place }
+{
+    states.get(place?)
 }
 
 /// The finding that isolation is missing on a chain, as a state shows.
@@ -113,8 +166,9 @@ pub(crate) fn findings_of(
     ensures { IfOk result (λ found. found.items ≡ findings_of design.now intent.now states.now (map ends_of chains.now)) }
 {
     let mut found = Vec::new(alloc);
+    let mut seen = HashMap::new(alloc);
     for ends in chains {
-        if let Some(state) = shown_by(intent, states, ends) {
+        if let Some(state) = shown_by(intent, states, ends, &mut seen)? {
             found.push(missing_on(alloc, design, ends, state)?)?;
         }
     }

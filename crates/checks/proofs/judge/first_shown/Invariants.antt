@@ -6,7 +6,7 @@ use Rattle.signoff_defs.specs.Watches.{isolation_missing}
 use Rattle.checks.proofs.judge.first_shown.Given as goal
 
 -- none so far shows it
-abbrev pub invariant-loop-state : goal.invariant-loop-state
-invariant-loop-state l =
-    find (λ s. holds (value_in s.values) (isolation_missing l.driver l.receiver)) (drop l.state-index l.states)
-    ≡ find (λ s. holds (value_in s.values) (isolation_missing l.driver l.receiver)) l.states
+abbrev pub invariant-loop-place : goal.invariant-loop-place
+invariant-loop-place l =
+    find (λ s. holds (value_in s.values) (isolation_missing l.sides.driver l.sides.receiver)) (drop l.place l.states)
+    ≡ find (λ s. holds (value_in s.values) (isolation_missing l.sides.driver l.sides.receiver)) l.states

@@ -17,6 +17,8 @@ mod copies;
 mod judge;
 mod laws;
 mod report;
+#[cfg(test)]
+mod tests;
 
 pub use laws::one_report;
 use pw_defs::{CheckFault, Design, Intent, List, ListFault, Memory, Report, State};

@@ -1,0 +1,28 @@
+# The commands of this repository. They need the Rattle kit's `rt`, and Python 3 for the cases and the benchmarks.
+
+PROGRAM := crates/upfsign/out/upfsign
+SOURCES := crates.txt $(shell find crates -name '*.rt' -o -name '*.antt')
+EXAMPLE := examples/first-path
+# A job without findings, so that its run ends with exit status 0.
+CLEAN_JOB := flat -lib ../../$(EXAMPLE)/cells.lib -net ../../$(EXAMPLE)/ab.v -upf ../../$(EXAMPLE)/always_on.upf -top top
+
+.PHONY: demo test cases bench
+
+# The report of the example. Its one finding is exit status 1.
+demo: $(PROGRAM)
+	@cd $(EXAMPLE) && { ../../$(PROGRAM) flat -lib cells.lib -net ab.v -upf base.upf -top top; test $$? -eq 1; }
+
+# The gate, then the cases on the program.
+test:
+	rt ci
+	$(MAKE) cases
+
+cases: $(PROGRAM)
+	python3 tests/run.py $(PROGRAM)
+
+bench: $(PROGRAM)
+	python3 bench/first_form.py $(PROGRAM)
+
+# Proves the program and all crates below it, and builds it.
+$(PROGRAM): $(SOURCES)
+	cd crates/upfsign && rt run -- $(CLEAN_JOB)

@@ -1,2 +1,5 @@
+pub mod EntryLemmas
 pub mod LeastLemmas
+pub mod LiftLemmas
+pub mod MarkLemmas
 pub mod PrefixLemmas

@@ -1,2 +1,6 @@
+pub mod Entries
+pub mod Lifted
+pub mod Lifts
+pub mod Marks
 pub mod Prefixes
 pub mod States

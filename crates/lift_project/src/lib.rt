@@ -3,7 +3,10 @@
 #![tactic(auto)]
 
 mod least;
+mod lifts;
 mod prefixes;
+mod reached;
 
 pub use least::first;
+pub use lifts::lift;
 pub use prefixes::project;

@@ -18,7 +18,7 @@ mark_kids-requires c =
     let kids = c.as_slice-then-index.ensures.items ∙ ap (λ (nodes : List KeptNode). (get_or nodes (n - 2) c.index-as_slice-at.result).kids) c.as_slice.ensures.items in
     let room : n ≤ length c.deref_mut.result.now = let low = c.loop-n.invariant.low in let size = c.loop-n.invariant.size in let e = ap (λ (ms : List Bool). length ms) c.deref_mut.ensures.value in omega arith in
     λ k d low.
-        kids_within kept.arities (shapes_of kept) c.requires.nodes (n - 2) _ (kept_shape kept.nodes (n - 2) c.index-as_slice-at.result inside) n (length c.deref_mut.result.now) (omega arith) room c.as_slice-then-index.result.now kids k d low
+    kids_within kept.arities (shapes_of kept) c.requires.nodes (n - 2) _ (kept_shape kept.nodes (n - 2) c.index-as_slice-at.result inside) n (length c.deref_mut.result.now) (omega arith) room c.as_slice-then-index.result.now kids k d low
 
 pub loop-n-preserved : goal.loop-n-preserved
 loop-n-preserved c = elim c.if-index.branch [

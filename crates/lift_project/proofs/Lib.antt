@@ -4,3 +4,4 @@ pub mod LiftLemmas
 pub mod LiftedLemmas
 pub mod MarkLemmas
 pub mod PrefixLemmas
+pub mod SmallTables

@@ -1,26 +1,26 @@
 -- A kept number is any of its alternatives, and what is found for them.
-use Rattle.std.proofs.Common.{◌≡◌, ◌≢◌, ℕ, zero, suc, ◌+◌, ◌-◌, ◌≤◌, ◌<◌, Bool, true, false, ◌&&◌, ◌||◌, nat_eq, ◌⊎◌, List, [], ◌∷◌, Option, Some, length, map, get_or, drop, refl, sym, ap, ◌∙◌, subst, inl, inr, arith}
+use Rattle.std.proofs.Common.{◌≡◌, ℕ, zero, suc, ◌+◌, ◌-◌, ◌≤◌, ◌<◌, Bool, true, ◌&&◌, ◌||◌, nat_eq, List, ◌∷◌, Option, Some, length, get_or, drop, sym, ap, ◌∙◌, subst, inl, inr, arith}
 use Rattle.std.specs.List.{slice_get, position_or_len}
-use Rattle.std.proofs.lemmas.List.{get_or_past, drop_more, get_or_default}
+use Rattle.std.proofs.lemmas.List.{get_or_past, drop_more}
 use Rattle.std.proofs.lemmas.List.Sums.{position_or_len_is, passes_at_first}
-use Rattle.std.proofs.lemmas.Bool.{and_parts, and_from, or_cases, or_left, or_right, cases_lt, cases_eq, eqb-true, eq-eqb, ne_eqb, false≢true, false_from_ne_true}
+use Rattle.std.proofs.lemmas.Bool.{and_parts, and_from, or_cases, or_left, or_right, cases_lt, eqb-true, eq-eqb, false≢true, false_from_ne_true}
 use Rattle.std.proofs.lemmas.Option.{slice_get-get_or}
 use Rattle.pw_defs.specs.declared.model.Kept.{Kept}
 use Rattle.pw_defs.specs.declared.model.KeptNode.{KeptNode}
 use Rattle.pw_defs.specs.declared.model.Place.{Place}
 use Rattle.diagram_defs.specs.Rests.{is_rest}
-use Rattle.diagram_defs.specs.Diagrams.{Diagram, Shape, member, kid, kids_of, IsKid, IsNumberFor, Grows}
+use Rattle.diagram_defs.specs.Diagrams.{Diagram, Shape, member, kid, kids_of, IsNumberFor, Grows}
 use Rattle.diagram_defs.specs.Diagrams.IsKid.{empty, whole, node}
 use Rattle.diagram_defs.specs.Sets.{or_set}
 use Rattle.diagram_defs.specs.Parts.{IsPartOf}
 use Rattle.diagram_defs.proofs.Listed.{same_truth}
 use Rattle.diagram_defs.proofs.Meaning.{member-empty, kids_of-node}
-use Rattle.diagram_defs.proofs.Growth.{member_grows, IsNumberFor_grows}
-use Rattle.lift_project.specs.Lifts.{shape_of, shapes_of, AreKeptNodes, IsKept, IsPlace, ArePlaces, value_at, read_back, lifted_set}
-use Rattle.lift_project.specs.Entries.{value_set, alternative_set, first_alternatives, held_set, IsStep, IsEntry, IsPartOfSome, IsAllowed}
+use Rattle.diagram_defs.proofs.Growth.{member_grows}
+use Rattle.lift_project.specs.Lifts.{shape_of, shapes_of, AreKeptNodes, IsKept, IsPlace, ArePlaces, read_back, lifted_set}
+use Rattle.lift_project.specs.Entries.{value_set, alternative_set, first_alternatives, held_set, IsStep, IsPartOfSome, IsAllowed}
 use Rattle.lift_project.specs.Entries.IsStep.{alone, both}
 use Rattle.lift_project.specs.Entries.IsEntry.{first, alternative, value}
-use Rattle.lift_project.proofs.MarkLemmas.{number_below, kept_shape}
+use Rattle.lift_project.proofs.MarkLemmas.{kept_shape}
 use Rattle.lift_project.proofs.EntryLemmas.{listed_grown}
 
 -- a kept node: its children, its values, and its place before the places of its children

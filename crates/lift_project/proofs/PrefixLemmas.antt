@@ -1,16 +1,15 @@
 -- Prefixes of a set, level by level.
-use Rattle.std.proofs.Common.{◌≡◌, ◌≢◌, ℕ, zero, suc, ◌+◌, ◌-◌, ◌≤◌, ◌<◌, Bool, true, false, cond, not, ◌&&◌, ◌||◌, ◌==◌, nat_eq, nat_lt, ◌⊎◌, List, [], ◌∷◌, ◌++◌, Option, Some, None, map, length, get_or, drop, refl, sym, ap, ◌∙◌, subst, inl, inr, arith, length-append}
-use Rattle.std.specs.List.{list_any, flat_map, range_with_len}
+use Rattle.std.proofs.Common.{◌≡◌, ◌≢◌, ℕ, ◌+◌, ◌-◌, ◌<◌, Bool, true, false, cond, not, ◌&&◌, nat_eq, List, [], ◌∷◌, ◌++◌, Option, Some, length, get_or, drop, refl, sym, ap, ◌∙◌, subst, inl, inr, arith}
 use Rattle.std.specs.declared.hash.FoldHasher.{FoldHasher}
 use Rattle.std.specs.declared.hash.BuildHasherDefault.{BuildHasherDefault}
 use Rattle.std.specs.HashMap.{HashMap, get, IsUnchanged}
 use Rattle.std.specs.Map.{lookup}
-use Rattle.std.proofs.lemmas.Bool.{and_parts, and_from, cases_Bool, false≢true, eqb-true, eq-eqb, ne_eqb, not_from_false, false_from_ne_true}
+use Rattle.std.proofs.lemmas.Bool.{and_parts, and_from, cases_Bool, false≢true, eqb-true, eq-eqb, ne_eqb, not_from_false}
 use Rattle.std.proofs.lemmas.Option.{same_Some}
 use Rattle.std.proofs.lemmas.List.{drop_all, drop_at}
 use Rattle.diagram_defs.specs.Rests.{is_rest, all_rests}
-use Rattle.diagram_defs.specs.Diagrams.{Diagram, Shape, kid, member, IsKid, IsPool, IsSet, IsNumberFor, AreRests, Grows}
-use Rattle.diagram_defs.specs.Diagrams.IsKid.{empty, whole, node}
+use Rattle.diagram_defs.specs.Diagrams.{Diagram, Shape, kid, member, IsPool, IsSet, IsNumberFor, AreRests, Grows}
+use Rattle.diagram_defs.specs.Diagrams.IsKid.{whole}
 use Rattle.diagram_defs.specs.Sets.{prefix_set}
 use Rattle.diagram_defs.proofs.Meaning.{member-empty, one_level, IsKid-kid, level_within}
 use Rattle.diagram_defs.proofs.Canonical.{inhabited}

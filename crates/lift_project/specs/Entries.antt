@@ -1,7 +1,7 @@
 -- A kept number as an expression: any of its alternatives, one for each value of its level, in order. An alternative
 -- says that the place has the value, and what the child says. The sets of these expressions, and of how far each has
 -- been read, are the entries whose parts may have nodes.
-use Rattle.std.specs.Prelude.{◌≡◌, ℕ, zero, suc, ◌≤◌, ◌<◌, Bool, false, ◌&&◌, ◌||◌, List, [], ◌∷◌, length, slice_index, nat_eq}
+use Rattle.std.specs.Prelude.{ℕ, zero, suc, ◌≤◌, ◌<◌, Bool, false, ◌&&◌, ◌||◌, List, ◌∷◌, length, slice_index, nat_eq}
 use Rattle.pw_defs.specs.declared.model.Place.{Place}
 use Rattle.diagram_defs.specs.Rests.{is_rest}
 use Rattle.diagram_defs.specs.Diagrams.{Shape, kid, kids_of}

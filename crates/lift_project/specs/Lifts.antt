@@ -1,5 +1,5 @@
 -- Kept sets, their places among the levels of a table, and the sets of whole states that they are lifted to.
-use Rattle.std.specs.Prelude.{◌≡◌, ℕ, ◌+◌, ◌≤◌, ◌<◌, Bool, ◌&&◌, List, [], ◌∷◌, Some, length, map, drop, slice_get, slice_index, nat_eq}
+use Rattle.std.specs.Prelude.{◌≡◌, ℕ, ◌<◌, Bool, ◌&&◌, List, Some, length, map, slice_get, slice_index, nat_eq}
 use Rattle.std.specs.List.{position_or_len}
 use Rattle.pw_defs.specs.declared.model.Kept.{Kept}
 use Rattle.pw_defs.specs.declared.model.KeptNode.{KeptNode}

@@ -1,9 +1,6 @@
 -- Which kept numbers a kept number leads to.
 use Rattle.std.specs.Prelude.{◌≡◌, ℕ, ◌+◌, ◌<◌, ◌⊎◌, Bool, true, List, [], ◌∷◌, Some, length, slice_get, slice_index}
-use Rattle.pw_defs.specs.declared.model.Kept.{Kept}
-use Rattle.pw_defs.specs.declared.model.Place.{Place}
-use Rattle.diagram_defs.specs.Diagrams.{Diagram, Shape, IsNumberFor, kid, kids_of}
-use Rattle.lift_project.specs.Lifts.{shapes_of, IsKept, lifted_set}
+use Rattle.diagram_defs.specs.Diagrams.{Shape, kid, kids_of}
 
 -- a number leads to another by the values of a front
 abbrev pub Leads : List Shape → ℕ → List ℕ → ℕ → Type 0

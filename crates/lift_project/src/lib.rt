@@ -6,6 +6,8 @@ mod least;
 mod lifts;
 mod prefixes;
 mod reached;
+#[cfg(test)]
+mod tests;
 
 pub use least::first;
 pub use lifts::lift;

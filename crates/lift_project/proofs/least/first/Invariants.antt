@@ -1,4 +1,4 @@
-use Rattle.std.proofs.Common.{◌≡◌, ◌≢◌, length, take}
+use Rattle.std.proofs.Common.{◌≢◌, take}
 use Rattle.diagram_defs.specs.Diagrams.{IsSet}
 use Rattle.lift_project.proofs.LeastLemmas.{LeadsLeast}
 use Rattle.lift_project.proofs.least.first.Given as goal

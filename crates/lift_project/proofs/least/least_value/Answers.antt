@@ -1,5 +1,4 @@
-use Rattle.std.proofs.Common.{◌≡◌, ℕ, length, get_or, arith}
-use Rattle.diagram_defs.specs.Diagrams.{kid}
+use Rattle.std.proofs.Common.{arith}
 use Rattle.lift_project.proofs.LeastLemmas.{some_kid}
 use Rattle.lift_project.proofs.least.least_value.Goals as goal
 

@@ -1,5 +1,5 @@
-use Rattle.std.proofs.Common.{◌≡◌, ◌≤◌, ◌<◌, ◌*◌, ◌%◌, ◌^◌, ℕ, List, Bool, length, get_or, refl, ap, ◌∙◌, arith}
-use Rattle.diagram_defs.specs.Diagrams.{member, AreOfOneLevel, IsSet, Grows}
+use Rattle.std.proofs.Common.{◌≡◌, ◌*◌, ◌%◌, ◌^◌, ℕ, List, Bool, length, ap, ◌∙◌, arith}
+use Rattle.diagram_defs.specs.Diagrams.{member, IsSet}
 use Rattle.diagram_defs.specs.Parts.{GrowsBy, IsPartOf}
 use Rattle.diagram_defs.specs.Sets.{and_set, literal_set}
 use Rattle.diagram_defs.proofs.Growth.{IsSet_grows}

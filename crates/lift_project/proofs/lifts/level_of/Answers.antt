@@ -1,4 +1,4 @@
-use Rattle.std.proofs.Common.{◌≡◌, ◌≤◌, ◌<◌, ◌+◌, ◌-◌, ℕ, List, length, get_or, sym, ap, arith}
+use Rattle.std.proofs.Common.{◌≤◌, ◌<◌, ◌-◌, List, length, get_or, sym, ap, arith}
 use Rattle.pw_defs.specs.declared.model.KeptNode.{KeptNode}
 use Rattle.diagram_defs.specs.Diagrams.IsKid.{node}
 use Rattle.lift_project.specs.Lifts.{shape_of}

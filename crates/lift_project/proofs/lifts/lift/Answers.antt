@@ -1,4 +1,4 @@
-use Rattle.std.proofs.Common.{◌≡◌, ◌≤◌, ◌<◌, ◌+◌, ℕ, Bool, List, Some, length, get_or, drop, replicate, sym, ap, ◌∙◌, subst, arith}
+use Rattle.std.proofs.Common.{◌≡◌, ◌<◌, ◌+◌, ℕ, Bool, List, Some, length, get_or, drop, replicate, sym, ap, ◌∙◌, subst, arith}
 use Rattle.std.proofs.lemmas.Bool.{false≢true}
 use Rattle.std.proofs.lemmas.Grind.{get_or_default_zero}
 use Rattle.std.proofs.lemmas.Option.{slice_get-get_or, same_Some}
@@ -8,7 +8,7 @@ use Rattle.diagram_defs.specs.Parts.{GrowsBy}
 use Rattle.diagram_defs.proofs.PartLemmas.{GrowsBy_none, GrowsBy_step, passed_cause}
 use Rattle.lift_project.specs.Lifts.{shapes_of, lifted_set}
 use Rattle.lift_project.specs.Entries.{IsAllowed}
-use Rattle.lift_project.specs.Marks.{IsMarked, AreReached}
+use Rattle.lift_project.specs.Marks.{IsMarked}
 use Rattle.lift_project.specs.Lifted.{AreKidsLifted}
 use Rattle.lift_project.proofs.LiftedLemmas.{AreLifted, lifted_none, allowed_behind, kids_lifted, lifted_more, lifted_skipped}
 use Rattle.lift_project.proofs.lifts.lift.Goals as goal

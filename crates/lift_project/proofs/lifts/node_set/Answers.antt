@@ -1,14 +1,14 @@
-use Rattle.std.proofs.Common.{◌≡◌, ◌≤◌, ◌<◌, ◌+◌, ◌-◌, ℕ, Bool, List, ◌∷◌, length, get_or, drop, refl, sym, ap, ◌∙◌, subst, arith}
+use Rattle.std.proofs.Common.{◌≡◌, ◌<◌, ◌+◌, ◌-◌, ℕ, Bool, List, length, get_or, drop, refl, sym, ap, ◌∙◌, subst, arith}
 use Rattle.pw_defs.specs.declared.model.KeptNode.{KeptNode}
 use Rattle.pw_defs.specs.declared.model.Place.{Place}
-use Rattle.diagram_defs.specs.Diagrams.{member, kid, kids_of, IsNumberFor, IsSet, Grows}
+use Rattle.diagram_defs.specs.Diagrams.{member, kid, kids_of, IsNumberFor}
 use Rattle.diagram_defs.specs.Diagrams.IsKid.{empty}
 use Rattle.diagram_defs.specs.Parts.{GrowsBy, IsPartOf}
 use Rattle.diagram_defs.specs.Sets.{or_set}
 use Rattle.diagram_defs.proofs.Meaning.{member-empty}
-use Rattle.diagram_defs.proofs.Growth.{IsSet_grows, IsNumberFor_grows, IsNumberFor_same, Grows_trans}
+use Rattle.diagram_defs.proofs.Growth.{IsSet_grows, IsNumberFor_grows, IsNumberFor_same}
 use Rattle.diagram_defs.proofs.PartLemmas.{GrowsBy_none, GrowsBy_step, passed_cause}
-use Rattle.lift_project.specs.Lifts.{shapes_of, lifted_set, IsPlace}
+use Rattle.lift_project.specs.Lifts.{shapes_of, lifted_set}
 use Rattle.lift_project.specs.Entries.{IsStep, IsPartOfSome, IsAllowed, first_alternatives, alternative_set}
 use Rattle.lift_project.proofs.LiftLemmas.{Stands, stands, node_within, held_parts, held_same, or_parts, or_same, lifted_any}
 use Rattle.lift_project.proofs.lifts.node_set.Goals as goal

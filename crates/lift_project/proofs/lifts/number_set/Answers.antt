@@ -1,4 +1,4 @@
-use Rattle.std.proofs.Common.{◌≡◌, ◌+◌, ℕ, Bool, List, length, drop}
+use Rattle.std.proofs.Common.{ℕ, Bool, List, length, drop}
 use Rattle.diagram_defs.specs.Parts.{IsPartOf}
 use Rattle.diagram_defs.specs.Sets.{full_set}
 use Rattle.diagram_defs.proofs.PartLemmas.{GrowsBy_wider, refused_wider, same_made}

@@ -1,6 +1,6 @@
-use Rattle.std.proofs.Common.{◌≡◌, ◌≢◌, ◌≤◌, ◌<◌, ◌+◌, ℕ, Bool, List, ◌∷◌, length, get_or, subst, sym, ap, ◌∙◌, refl, arith}
+use Rattle.std.proofs.Common.{◌≡◌, ◌<◌, ◌+◌, ℕ, Bool, List, ◌∷◌, length, get_or, subst, sym, ap, ◌∙◌, refl, arith}
 use Rattle.std.proofs.lemmas.Bool.{iff_false}
-use Rattle.diagram_defs.specs.Diagrams.{Diagram, IsSet, IsNumberFor, AreKids, AreKidsFor, Grows, AreRests, kid}
+use Rattle.diagram_defs.specs.Diagrams.{IsSet, IsNumberFor, AreKids}
 use Rattle.diagram_defs.specs.Diagrams.IsKid.{empty}
 use Rattle.diagram_defs.specs.Parts.{GrowsBy, IsPartOf}
 use Rattle.diagram_defs.specs.Sets.{case_set}
@@ -8,7 +8,7 @@ use Rattle.diagram_defs.proofs.Meaning.{member-empty, IsKid-kid, level_of_one}
 use Rattle.diagram_defs.proofs.PartLemmas.{GrowsBy_none, GrowsBy_step, passed_cause}
 use Rattle.diagram_defs.proofs.Growth.{IsNumberFor_same, Grows_trans}
 use Rattle.diagram_defs.proofs.Steps.{AreKids_for, AreKidsSo, AreKidsSo_none, AreKidsSo_more, kids_number, kids_parts, value_parts}
-use Rattle.lift_project.specs.Prefixes.{starts_set, AreFound, AreFirst}
+use Rattle.lift_project.specs.Prefixes.{starts_set}
 use Rattle.lift_project.proofs.PrefixLemmas.{AreRests_starts, starts_none, starts_behind, starts_last, found_at, AreFound_grows, AreFound_more, AreFound_same, AreFirst_grows}
 use Rattle.lift_project.proofs.prefixes.+prefixes.Goals as goal
 use Rattle.lift_project.proofs.prefixes.+prefixes.Goals.{prefixes-After-case, prefixes-In_ok-kids, prefixes-In_ok-found, prefix_kids-After-prefixes}

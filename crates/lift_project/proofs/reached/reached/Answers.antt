@@ -1,11 +1,11 @@
-use Rattle.std.proofs.Common.{◌≡◌, ◌≤◌, ◌<◌, ◌+◌, ◌-◌, ℕ, List, Bool, true, false, Option, Some, length, get_or, sym, ap, ◌∙◌, subst, arith}
+use Rattle.std.proofs.Common.{◌≡◌, ◌≤◌, ◌<◌, ◌-◌, ℕ, List, Bool, Some, length, get_or, sym, ap, ◌∙◌, subst, arith}
 use Rattle.std.proofs.lemmas.Bool.{false≢true}
 use Rattle.std.proofs.lemmas.List.{with_items_is}
 use Rattle.std.proofs.lemmas.Option.{slice_get-get_or, same_Some}
 use Rattle.pw_defs.specs.declared.model.KeptNode.{KeptNode}
 use Rattle.lift_project.specs.Lifts.{shapes_of, shape_of}
 use Rattle.lift_project.specs.Marks.{IsMarked, MarksKids}
-use Rattle.lift_project.proofs.MarkLemmas.{number_below, kept_shape, kids_within, AreReachedDown, down_more, down_skipped, down_end}
+use Rattle.lift_project.proofs.MarkLemmas.{number_below, kept_shape, kids_within, AreReachedDown, down_more, down_skipped}
 use Rattle.lift_project.proofs.reached.reached.Goals as goal
 use Rattle.lift_project.proofs.reached.reached.Goals.{then-index, else-index}
 

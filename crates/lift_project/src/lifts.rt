@@ -1,7 +1,7 @@
 //! Kept sets among the levels of another table.
 
-ghost use Rattle.std.specs.Prelude.{◌≡◌, ◌≢◌, ◌≤◌, ◌<◌, ◌+◌, ℕ, IfOk, IfErr, length, drop, slice_index};
-ghost use Rattle.diagram_defs.specs.Diagrams.{IsSet, IsNumberFor, member, kid, kids_of};
+ghost use Rattle.std.specs.Prelude.{◌≤◌, ◌<◌, ◌+◌, IfOk, IfErr, length, drop, slice_index};
+ghost use Rattle.diagram_defs.specs.Diagrams.{IsSet, IsNumberFor, member};
 ghost use Rattle.diagram_defs.specs.Parts.{GrowsBy};
 ghost use Rattle.diagram_defs.specs.Answers.{IsCause};
 ghost use Rattle.lift_project.specs.Lifts.{shapes_of, AreKeptNodes, IsKept, ArePlaces, lifted_set};

@@ -1,6 +1,6 @@
 //! Which kept numbers a kept number leads to.
 
-ghost use Rattle.std.specs.Prelude.{◌≡◌, ◌<◌, ◌+◌, ℕ, IfOk, All, length};
+ghost use Rattle.std.specs.Prelude.{◌<◌, IfOk, All, length};
 ghost use Rattle.lift_project.specs.Lifts.{shapes_of, AreKeptNodes, IsKept};
 ghost use Rattle.lift_project.specs.Marks.{AreReached, MarksKids};
 

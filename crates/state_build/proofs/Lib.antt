@@ -1,0 +1,5 @@
+pub mod Entering
+pub mod Pairing
+pub mod Singles
+pub mod Tested
+pub mod Wholes

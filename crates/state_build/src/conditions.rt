@@ -1,0 +1,117 @@
+//! The states at which a condition holds.
+
+ghost use Rattle.std.specs.Prelude.{◌≡◌, ◌<◌, true, map, IfOk, IfErr, length};
+ghost use Rattle.std.specs.List.{list_all};
+ghost use Rattle.pw_defs.specs.declared.conditions.Cond.TheVariants.{Is, On, Not, All, Any};
+ghost use Rattle.intent_defs.specs.Conditions.{speaks_below};
+ghost use Rattle.diagram_defs.specs.Diagrams.{IsNumberFor};
+ghost use Rattle.diagram_defs.specs.Parts.{GrowsBy, IsPartOf};
+ghost use Rattle.diagram_defs.specs.Answers.{IsCause};
+ghost use Rattle.state_build.specs.Built.{built_set};
+ghost use Rattle.state_build.specs.Entries.{IsPartOfEntry};
+
+use crate::levels::{ValueTest, passing};
+use crate::pairs::apart;
+use pw_defs::{Cond, DiagFault, List, Value};
+use state_diagrams::Pool;
+
+/// The number of the whole states at which the condition holds, by the values that their indices stand for. There is
+/// a list of values for each level, and the condition's supplies are levels.
+///
+/// `Bound` comes only where the table is full and one of these has no node: a part of the condition's set, of the set
+/// of a condition inside it, or of the first ones of an `All` or an `Any`.
+#[cycle(build)]
+pub fn build(pool: &mut Pool, lists: &[List<Value>], cond: &Cond) -> Result<u32, DiagFault>
+    requires lists { map length lists.now ≡ pool.old.arities }
+    requires levels { speaks_below (length lists.now) cond.now ≡ true }
+    ensures number { IfOk result (IsNumberFor pool.new 0 (built_set pool.old.arities lists.now cond.now)) }
+    ensures grows { GrowsBy (IsPartOfEntry pool.old.arities lists.now cond.now) pool.old pool.new }
+    ensures cause { IfErr result (IsCause pool.new (IsPartOfEntry pool.old.arities lists.now cond.now)) }
+{
+    match cond {
+        Cond::True => pool.full(0),
+        Cond::Is { supply, value } => is_at(pool, lists, *supply, *value),
+        Cond::On { supply } => is_on(pool, lists, *supply),
+        Cond::Apart { low, high, above } => apart(pool, lists, *low, *high, *above),
+        Cond::Not(part) => negated(pool, lists, part.get()),
+        Cond::All(parts) => all_of(pool, lists, parts.as_slice()),
+        Cond::Any(parts) => any_of(pool, lists, parts.as_slice()),
+    }
+}
+
+/// The number of the whole states at which a supply has a value.
+fn is_at(
+    pool: &mut Pool,
+    lists: &[List<Value>],
+    supply: u32,
+    value: Value,
+) -> Result<u32, DiagFault>
+    requires lists { map length lists.now ≡ pool.old.arities }
+    requires level { supply < length lists.now }
+    ensures number { IfOk result (IsNumberFor pool.new 0 (built_set pool.old.arities lists.now (Is supply value))) }
+    ensures grows { GrowsBy (IsPartOf (length pool.old.arities) 0 (built_set pool.old.arities lists.now (Is supply value))) pool.old pool.new }
+    ensures cause { IfErr result (IsCause pool.new (IsPartOf (length pool.old.arities) 0 (built_set pool.old.arities lists.now (Is supply value)))) }
+{
+    let values = lists[supply as usize].as_slice();
+    passing(pool, 0, supply, values, ValueTest::Is(value))
+}
+
+/// The number of the whole states at which a supply is on.
+fn is_on(pool: &mut Pool, lists: &[List<Value>], supply: u32) -> Result<u32, DiagFault>
+    requires lists { map length lists.now ≡ pool.old.arities }
+    requires level { supply < length lists.now }
+    ensures number { IfOk result (IsNumberFor pool.new 0 (built_set pool.old.arities lists.now (On supply))) }
+    ensures grows { GrowsBy (IsPartOf (length pool.old.arities) 0 (built_set pool.old.arities lists.now (On supply))) pool.old pool.new }
+    ensures cause { IfErr result (IsCause pool.new (IsPartOf (length pool.old.arities) 0 (built_set pool.old.arities lists.now (On supply)))) }
+{
+    let values = lists[supply as usize].as_slice();
+    passing(pool, 0, supply, values, ValueTest::On)
+}
+
+/// The number of the whole states at which a condition doesn't hold.
+#[cycle(build)]
+fn negated(pool: &mut Pool, lists: &[List<Value>], part: &Cond) -> Result<u32, DiagFault>
+    requires lists { map length lists.now ≡ pool.old.arities }
+    requires levels { speaks_below (length lists.now) part.now ≡ true }
+    ensures number { IfOk result (IsNumberFor pool.new 0 (built_set pool.old.arities lists.now (Not part.now))) }
+    ensures grows { GrowsBy (IsPartOfEntry pool.old.arities lists.now (Not part.now)) pool.old pool.new }
+    ensures cause { IfErr result (IsCause pool.new (IsPartOfEntry pool.old.arities lists.now (Not part.now))) }
+{
+    let n = build(pool, lists, part)?;
+    pool.complement(0, n)
+}
+
+/// The number of the whole states at which all of the conditions hold.
+#[cycle(build)]
+fn all_of(pool: &mut Pool, lists: &[List<Value>], parts: &[Cond]) -> Result<u32, DiagFault>
+    requires lists { map length lists.now ≡ pool.old.arities }
+    requires levels { list_all (speaks_below (length lists.now)) parts.now ≡ true }
+    ensures number { IfOk result (IsNumberFor pool.new 0 (built_set pool.old.arities lists.now (All parts.now))) }
+    ensures grows { GrowsBy (IsPartOfEntry pool.old.arities lists.now (All parts.now)) pool.old pool.new }
+    ensures cause { IfErr result (IsCause pool.new (IsPartOfEntry pool.old.arities lists.now (All parts.now))) }
+{
+    let mut n = pool.full(0)?;
+    for part in parts {
+        let set = build(pool, lists, part)?;
+        n = pool.and(n, set)?;
+    }
+    Ok(n)
+}
+
+/// The number of the whole states at which one of the conditions holds.
+#[cycle(build)]
+fn any_of(pool: &mut Pool, lists: &[List<Value>], parts: &[Cond]) -> Result<u32, DiagFault>
+    requires lists { map length lists.now ≡ pool.old.arities }
+    requires levels { list_all (speaks_below (length lists.now)) parts.now ≡ true }
+    ensures number { IfOk result (IsNumberFor pool.new 0 (built_set pool.old.arities lists.now (Any parts.now))) }
+    ensures grows { GrowsBy (IsPartOfEntry pool.old.arities lists.now (Any parts.now)) pool.old pool.new }
+    ensures cause { IfErr result (IsCause pool.new (IsPartOfEntry pool.old.arities lists.now (Any parts.now))) }
+{
+    let _count = pool.nodes();
+    let mut n = 0;
+    for part in parts {
+        let set = build(pool, lists, part)?;
+        n = pool.or(n, set)?;
+    }
+    Ok(n)
+}

@@ -1,0 +1,8 @@
+//! Sets of whole states from conditions: the states at which a condition holds, as a number of a table of nodes.
+#![tactic(auto)]
+
+mod conditions;
+mod levels;
+mod pairs;
+
+pub use conditions::build;

@@ -1,11 +1,11 @@
 -- The values at two levels.
-use Rattle.std.proofs.Common.{◌≡◌, ℕ, suc, ◌+◌, ◌-◌, ◌≤◌, ◌<◌, Bool, false, ◌&&◌, List, [], ◌∷◌, map, length, get_or, drop, refl, sym, ap, ◌∙◌, arith, slice_index, slice_index_or}
+use Rattle.std.proofs.Common.{◌≡◌, ℕ, suc, ◌+◌, ◌-◌, ◌≤◌, ◌<◌, Bool, false, ◌&&◌, List, [], ◌∷◌, map, length, get_or, drop, refl, sym, ap, ◌∙◌, arith, slice_index}
 use Rattle.std.proofs.lemmas.Bool.{le-ltb}
 use Rattle.std.proofs.lemmas.List.{get_or-drop, get_or-map, length-map}
 use Rattle.pw_defs.specs.declared.values.Value.{Value}
 use Rattle.pw_defs.specs.declared.values.Value.TheVariants.{Off, On}
 use Rattle.pw_defs.specs.declared.conditions.Cond.TheVariants.{Apart}
-use Rattle.intent_defs.specs.Conditions.{exceeds, holds}
+use Rattle.intent_defs.specs.Conditions.{exceeds}
 use Rattle.intent_defs.proofs.Meaning.{holds_apart}
 use Rattle.diagram_defs.specs.Rests.{is_rest}
 use Rattle.state_build.specs.declared.levels.Side.{Side}

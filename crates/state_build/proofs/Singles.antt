@@ -3,9 +3,7 @@ use Rattle.std.proofs.Common.{◌≡◌, ℕ, ◌-◌, ◌<◌, Bool, ◌&&◌, 
 use Rattle.std.proofs.lemmas.List.{get_or_default}
 use Rattle.pw_defs.specs.declared.values.Value.{Value}
 use Rattle.pw_defs.specs.declared.values.Value.TheVariants.{Off}
-use Rattle.pw_defs.specs.declared.conditions.Cond.{Cond}
 use Rattle.pw_defs.specs.declared.conditions.Cond.TheVariants.{Is, On}
-use Rattle.intent_defs.specs.Conditions.{holds}
 use Rattle.intent_defs.proofs.Meaning.{holds_is, holds_on}
 use Rattle.diagram_defs.specs.Rests.{is_rest}
 use Rattle.state_build.specs.declared.levels.ValueTest.{ValueTest}

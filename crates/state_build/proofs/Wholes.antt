@@ -8,8 +8,8 @@ use Rattle.pw_defs.specs.declared.conditions.Cond.TheVariants.{True, Not, All, A
 use Rattle.intent_defs.specs.Conditions.{holds}
 use Rattle.intent_defs.proofs.Meaning.{holds_true, holds_not, holds_all, holds_any}
 use Rattle.diagram_defs.specs.Rests.{is_rest}
-use Rattle.diagram_defs.specs.Diagrams.{Diagram, member, IsNumberFor, Grows}
-use Rattle.diagram_defs.specs.Sets.{full_set, and_set, or_set, complement_set}
+use Rattle.diagram_defs.specs.Diagrams.{Diagram, IsNumberFor, Grows}
+use Rattle.diagram_defs.specs.Sets.{and_set, or_set, complement_set}
 use Rattle.state_build.specs.Built.{value_of, built_set}
 use Rattle.state_build.proofs.Tested.{and_none, and_true}
 

@@ -4,5 +4,7 @@
 mod conditions;
 mod levels;
 mod pairs;
+#[cfg(test)]
+mod tests;
 
 pub use conditions::build;

@@ -77,7 +77,11 @@ fn pair_kids(
     let values = lists[second as usize].as_slice();
     let mut kids = Vec::new(pool.allocator());
     for from in froms {
-        let test = ValueTest::Far { side, from: *from, by };
+        let test = ValueTest::Far {
+            side,
+            from: *from,
+            by,
+        };
         let kid = passing(pool, first + 1, second, values, test)?;
         kids.push(kid)?;
     }

@@ -1,19 +1,16 @@
-use Rattle.std.proofs.Common.{rules, ◌≡◌, ◌<◌, ◌+◌, ℕ, Bool, true, List, [], map, take, length, get_or, sym, ap, ◌∙◌, subst, refl, arith, Some, Result, IfOk, IfErr}
+use Rattle.std.proofs.Common.{rules, ◌≡◌, ◌+◌, ℕ, Bool, List, take, length, sym, ap, ◌∙◌, subst, refl, Some}
 use Rattle.std.specs.List.{slice_get}
 use Rattle.std.proofs.lemmas.Bool.{and_parts, ltb-true}
-use Rattle.std.proofs.lemmas.List.{take_all}
 use Rattle.std.proofs.lemmas.Option.{slice_get_read}
 use Rattle.pw_defs.specs.declared.values.Value.{Value}
 use Rattle.pw_defs.specs.declared.conditions.Cond.{Cond, the_lemmas}
-use Rattle.pw_defs.specs.declared.conditions.Cond.TheVariants.{True, Is, On, Apart, Not, All, Any}
-use Rattle.pw_defs.specs.declared.faults.DiagFault.{DiagFault}
+use Rattle.pw_defs.specs.declared.conditions.Cond.TheVariants.{True, Not, All, Any}
 use Rattle.intent_defs.specs.Conditions.{speaks_below}
 use Rattle.intent_defs.proofs.Meaning.{speaks_is, speaks_on, speaks_apart, speaks_not, speaks_all, speaks_any}
-use Rattle.diagram_defs.specs.Diagrams.{Diagram, IsNumberFor, AreOfOneLevel, AtTheirLevel, Grows}
+use Rattle.diagram_defs.specs.Diagrams.{Diagram, IsNumberFor}
 use Rattle.diagram_defs.specs.Diagrams.IsKid.{empty}
 use Rattle.diagram_defs.specs.Sets.{full_set, complement_set, and_set, or_set}
 use Rattle.diagram_defs.specs.Parts.{GrowsBy, IsPartOf}
-use Rattle.diagram_defs.specs.Answers.{IsCause}
 use Rattle.diagram_defs.proofs.Meaning.{member-empty}
 use Rattle.diagram_defs.proofs.Growth.{IsNumberFor_grows, IsNumberFor_same}
 use Rattle.diagram_defs.proofs.PartLemmas.{GrowsBy_none, GrowsBy_step, GrowsBy_wider, IsPartOf_same, IsPartOf_grown, passed_cause, refused_wider, same_made}

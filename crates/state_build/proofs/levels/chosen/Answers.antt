@@ -1,7 +1,7 @@
-use Rattle.std.proofs.Common.{◌≡◌, ◌≤◌, ◌<◌, ◌+◌, ℕ, Bool, List, ◌∷◌, length, get_or, subst, sym, ap, ◌∙◌, refl, arith, slice_index, slice_index_or, Result, IfOk, Ok, Err}
+use Rattle.std.proofs.Common.{◌≡◌, ◌<◌, ◌+◌, ℕ, Bool, List, ◌∷◌, length, get_or, subst, sym, ap, ◌∙◌, arith, slice_index, slice_index_or, Result, IfOk, Ok, Err}
 use Rattle.pw_defs.specs.declared.values.Value.TheVariants.{Off}
 use Rattle.pw_defs.specs.declared.faults.DiagFault.{DiagFault}
-use Rattle.diagram_defs.specs.Diagrams.{Diagram, IsNumberFor, AreKids, AreKidsFor}
+use Rattle.diagram_defs.specs.Diagrams.{IsNumberFor, AreKidsFor}
 use Rattle.diagram_defs.specs.Parts.{GrowsBy, IsPartOf}
 use Rattle.diagram_defs.specs.Sets.{case_set}
 use Rattle.diagram_defs.proofs.PartLemmas.{GrowsBy_none, GrowsBy_step, passed_cause, refused_wider}

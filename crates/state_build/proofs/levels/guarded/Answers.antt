@@ -1,7 +1,6 @@
-use Rattle.std.proofs.Common.{◌≡◌, ◌&&◌, ℕ, Bool, true, false, List, refl, sym, ap, ◌∙◌}
+use Rattle.std.proofs.Common.{◌≡◌, ℕ, Bool, true, List, refl, sym, ap, ◌∙◌}
 use Rattle.diagram_defs.specs.Diagrams.{Diagram}
 use Rattle.diagram_defs.specs.Diagrams.IsKid.{empty}
-use Rattle.diagram_defs.specs.Rests.{is_rest}
 use Rattle.diagram_defs.specs.Sets.{full_set}
 use Rattle.diagram_defs.proofs.Meaning.{member-empty}
 use Rattle.diagram_defs.proofs.PartLemmas.{GrowsBy_none, same_made, same_grown, same_refused}

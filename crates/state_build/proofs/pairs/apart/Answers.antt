@@ -1,4 +1,4 @@
-use Rattle.std.proofs.Common.{◌≡◌, ℕ, List, sym, ◌∙◌, refl, arith, nat_cmp, Equal}
+use Rattle.std.proofs.Common.{◌≡◌, ℕ, sym, ◌∙◌, refl, arith, nat_cmp, Equal}
 use Rattle.std.proofs.lemmas.Bool.Decides.{nat_tests}
 use Rattle.diagram_defs.specs.Diagrams.IsKid.{empty}
 use Rattle.diagram_defs.proofs.Meaning.{member-empty}

@@ -1,12 +1,10 @@
-use Rattle.std.proofs.Common.{◌≡◌, ◌≤◌, ◌<◌, ◌+◌, ℕ, Bool, List, [], ◌∷◌, length, get_or, subst, sym, ap, ◌∙◌, refl, arith}
+use Rattle.std.proofs.Common.{◌≡◌, ◌<◌, ◌+◌, ℕ, Bool, List, [], ◌∷◌, length, get_or, subst, sym, ap, ◌∙◌, arith}
 use Rattle.pw_defs.specs.declared.values.Value.TheVariants.{Off}
-use Rattle.diagram_defs.specs.Diagrams.{IsNumberFor, AreKidsFor}
 use Rattle.diagram_defs.specs.Parts.{GrowsBy, IsPartOf}
 use Rattle.diagram_defs.proofs.PartLemmas.{GrowsBy_none, GrowsBy_step, passed_cause}
 use Rattle.diagram_defs.proofs.Growth.{IsNumberFor_same}
 use Rattle.diagram_defs.proofs.Steps.{AreKidsSo, AreKidsSo_none, AreKidsSo_more, AreKidsSo_all, value_parts}
 use Rattle.state_build.specs.declared.levels.ValueTest.TheVariants.{Far}
-use Rattle.state_build.specs.Built.{value_at}
 use Rattle.state_build.specs.ValueTests.{passing_set, pair_set}
 use Rattle.state_build.proofs.Singles.{list_read}
 use Rattle.state_build.proofs.Pairing.{arity_at, level_in, pair_behind}

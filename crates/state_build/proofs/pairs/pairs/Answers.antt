@@ -1,5 +1,5 @@
-use Rattle.std.proofs.Common.{◌≡◌, ◌≤◌, ◌<◌, ◌+◌, ◌-◌, ℕ, Bool, List, length, drop, subst, sym, ap, ◌∙◌, arith}
-use Rattle.diagram_defs.specs.Diagrams.{IsNumberFor, AreKidsFor, AreKids, member}
+use Rattle.std.proofs.Common.{◌≡◌, ◌≤◌, ◌<◌, ℕ, Bool, List, length, subst, sym, arith}
+use Rattle.diagram_defs.specs.Diagrams.{IsNumberFor, AreKidsFor, member}
 use Rattle.diagram_defs.specs.Sets.{case_set, widened_set}
 use Rattle.diagram_defs.specs.Parts.{GrowsBy, IsPartOf}
 use Rattle.diagram_defs.proofs.PartLemmas.{GrowsBy_step, GrowsBy_wider, passed_cause, refused_wider, same_made}

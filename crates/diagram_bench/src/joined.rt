@@ -1,0 +1,133 @@
+//! The states of supplies that are off or on, two and two of them joined by a condition.
+
+ghost use Rattle.std.specs.Prelude.{◌≡◌, ◌<◌, ◌≤◌, ◌+◌, ◌*◌, ℕ, true, map, length, replicate, IfOk};
+ghost use Rattle.std.specs.List.{list_all};
+ghost use Rattle.intent_defs.specs.Conditions.{speaks_below};
+ghost use Rattle.diagram_bench.specs.Links.{levels_of};
+
+use crate::MAX_NODES;
+use pw_defs::{Boxed, Cond, DiagFault, List, Value};
+use state_build::build;
+use state_diagrams::Pool;
+use std::alloc::{AllocError, Global};
+
+/// Which supplies are joined, and how.
+#[derive(Clone, Copy)]
+pub enum Link {
+    /// Each with the next one, in pairs: both are on or none is.
+    Beside,
+    /// The same, with all first ones of the pairs before all second ones.
+    Behind,
+    /// Each with the next one, in a row: the next one is on only where it is.
+    Chain,
+}
+
+/// How many supplies there are for so many links.
+pub fn level_count(link: Link, count: u32) -> u32
+    requires { count ≤ 1000000 }
+    ensures { result ≡ levels_of link count }
+{
+    match link {
+        Link::Beside => 2 * count,
+        Link::Behind => 2 * count,
+        Link::Chain => count + 1,
+    }
+}
+
+/// The two supplies of a link.
+fn ends(link: Link, count: u32, at: u32) -> (u32, u32)
+    requires few { count ≤ 1000000 }
+    requires within { at < count }
+    ensures first { result.0 < levels_of link count }
+    ensures second { result.1 < levels_of link count }
+{
+    match link {
+        Link::Beside => (2 * at, 2 * at + 1),
+        Link::Behind => (at, count + at),
+        Link::Chain => (at, at + 1),
+    }
+}
+
+/// Both supplies are on.
+#[tactic(auto, using(intent_defs::proofs::Meaning::speaking))]
+fn both(alloc: Global, a: u32, b: u32) -> Result<List<Cond>, AllocError>
+    ensures { IfOk result (λ conds. (n : ℕ) → a < n → b < n → list_all (speaks_below n) conds ≡ true) }
+{
+    let mut conds = List::new(alloc);
+    conds.push(Cond::On { supply: a })?;
+    conds.push(Cond::On { supply: b })?;
+    Ok(conds)
+}
+/// Both supplies are on, or none is.
+#[tactic(auto, using(intent_defs::proofs::Meaning::speaking))]
+fn alike(alloc: Global, a: u32, b: u32) -> Result<Cond, AllocError>
+    ensures { IfOk result (λ cond. (n : ℕ) → a < n → b < n → speaks_below n cond ≡ true) }
+{
+    let some = Boxed::new(alloc, Cond::Any(both(alloc, a, b)?))?;
+    let mut conds = List::new(alloc);
+    conds.push(Cond::All(both(alloc, a, b)?))?;
+    conds.push(Cond::Not(some))?;
+    Ok(Cond::Any(conds))
+}
+
+/// The second supply is on only where the first is.
+#[tactic(auto, using(intent_defs::proofs::Meaning::speaking))]
+fn follows(alloc: Global, a: u32, b: u32) -> Result<Cond, AllocError>
+    ensures { IfOk result (λ cond. (n : ℕ) → a < n → b < n → speaks_below n cond ≡ true) }
+{
+    let second = Boxed::new(alloc, Cond::On { supply: b })?;
+    let mut conds = List::new(alloc);
+    conds.push(Cond::Not(second))?;
+    conds.push(Cond::On { supply: a })?;
+    Ok(Cond::Any(conds))
+}
+
+/// The condition of a link.
+fn link_cond(alloc: Global, link: Link, a: u32, b: u32) -> Result<Cond, AllocError>
+    ensures { IfOk result (λ cond. (n : ℕ) → a < n → b < n → speaks_below n cond ≡ true) }
+{
+    match link {
+        Link::Beside => alike(alloc, a, b),
+        Link::Behind => alike(alloc, a, b),
+        Link::Chain => follows(alloc, a, b),
+    }
+}
+
+/// The conditions of all links, in order.
+fn conditions(alloc: Global, link: Link, count: u32) -> Result<List<Cond>, AllocError>
+    requires { count ≤ 1000000 }
+    ensures { IfOk result (λ conds. list_all (speaks_below (levels_of link count)) conds ≡ true) }
+{
+    let mut conds = List::new(alloc);
+    for at in 0..count {
+        let (a, b) = ends(link, count, at);
+        let cond = link_cond(alloc, link, a, b)?;
+        conds.push(cond)?;
+    }
+    Ok(conds)
+}
+
+/// The values of so many supplies.
+fn supplies(alloc: Global, count: u32) -> Result<Vec<List<Value>>, AllocError>
+    ensures { IfOk result (λ lists. map length lists.items ≡ replicate count 2) }
+{
+    let mut lists = Vec::new(alloc);
+    for _ in 0..count {
+        lists.push(List::from_slice(alloc, &[Value::Off, Value::On(0)])?)?;
+    }
+    Ok(lists)
+}
+
+/// How many nodes a table has once the states are found in which all links hold.
+pub fn joined_nodes(alloc: Global, link: Link, count: u32) -> Result<u32, DiagFault>
+    requires few { count ≤ 1000000 }
+    requires levels { levels_of link count ≤ 1024 }
+{
+    let levels = level_count(link, count);
+    let lists = supplies(alloc, levels)?;
+    let arities = Vec::from_elem(alloc, 2, levels as usize)?;
+    let mut pool = Pool::new(alloc, arities.as_slice(), MAX_NODES)?;
+    let cond = Cond::All(conditions(alloc, link, count)?);
+    build(&mut pool, lists.as_slice(), &cond)?;
+    Ok(pool.nodes())
+}

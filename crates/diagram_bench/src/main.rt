@@ -14,6 +14,7 @@ use joined::{Link, joined_nodes, level_count};
 use pw_defs::DiagFault;
 use random::random_nodes;
 use std::alloc::Global;
+use std::process::ExitCode;
 use std::{env, io};
 
 /// How many nodes a table may have.
@@ -70,7 +71,7 @@ fn nodes_of(alloc: Global, task: Task) -> Result<(u32, Option<u32>), DiagFault>
     }
 }
 
-fn main(rt: HostRuntime) -> io::Result<()> {
+fn main(rt: HostRuntime) -> io::Result<ExitCode> {
     let mut words = env::args(&rt)?.skip(1);
     let task = match (words.next(), words.next()) {
         (Some(kind), Some(size)) => task_of(kind.as_str(), size.as_str()),
@@ -78,12 +79,13 @@ fn main(rt: HostRuntime) -> io::Result<()> {
     };
     let Some(task) = task else {
         eprintln!(rt; "usage: diagram_bench pairs|apart|chain|random N")?;
-        return Ok(());
+        return Ok(ExitCode::from(2));
     };
     match nodes_of(rt.alloc(), task) {
-        Ok((nodes, None)) => println!(rt; "nodes {nodes}"),
-        Ok((nodes, Some(before))) => println!(rt; "nodes {nodes} before {before}"),
-        Err(DiagFault::Bound { nodes }) => println!(rt; "bound {nodes}"),
-        Err(DiagFault::Memory) => println!(rt; "memory"),
+        Ok((nodes, None)) => println!(rt; "nodes {nodes}")?,
+        Ok((nodes, Some(before))) => println!(rt; "nodes {nodes} before {before}")?,
+        Err(DiagFault::Bound { nodes }) => println!(rt; "bound {nodes}")?,
+        Err(DiagFault::Memory) => return Ok(ExitCode::FAILURE),
     }
+    Ok(ExitCode::SUCCESS)
 }

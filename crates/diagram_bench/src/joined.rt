@@ -1,9 +1,10 @@
 //! The states of supplies that are off or on, two and two of them joined by a condition.
 
-ghost use Rattle.std.specs.Prelude.{◌≡◌, ◌<◌, ◌≤◌, ◌+◌, ◌*◌, ℕ, true, map, length, replicate, IfOk};
-ghost use Rattle.std.specs.List.{list_all};
-ghost use Rattle.intent_defs.specs.Conditions.{speaks_below};
-ghost use Rattle.diagram_bench.specs.Links.{levels_of};
+ghost use Rattle.std.specs.Prelude.{◌≡◌, ◌&&◌, ◌||◌, ◌<◌, ◌≤◌, ◌+◌, ◌*◌, ℕ, true, map, length, replicate, IfOk};
+ghost use Rattle.std.specs.List.{list_all, list_any};
+ghost use Rattle.pw_defs.specs.declared.values.Value.{Value};
+ghost use Rattle.intent_defs.specs.Conditions.{holds, is_on, speaks_below};
+ghost use Rattle.diagram_bench.specs.Links.{levels_of, first_of, second_of, are_alike, is_after, is_linked};
 
 use crate::MAX_NODES;
 use pw_defs::{Boxed, Cond, DiagFault, List, Value};
@@ -38,6 +39,7 @@ pub fn level_count(link: Link, count: u32) -> u32
 fn ends(link: Link, count: u32, at: u32) -> (u32, u32)
     requires few { count ≤ 1000000 }
     requires within { at < count }
+    ensures ends { (result.0 ≡ first_of link count at) × (result.1 ≡ second_of link count at) }
     ensures first { result.0 < levels_of link count }
     ensures second { result.1 < levels_of link count }
 {
@@ -49,9 +51,13 @@ fn ends(link: Link, count: u32, at: u32) -> (u32, u32)
 }
 
 /// Both supplies are on.
-#[tactic(auto, using(intent_defs::proofs::Meaning::speaking))]
+#[tactic(auto, using(intent_defs::proofs::Meaning::speaking, intent_defs::proofs::Meaning::holding))]
 fn both(alloc: Global, a: u32, b: u32) -> Result<List<Cond>, AllocError>
-    ensures { IfOk result (λ conds. (n : ℕ) → a < n → b < n → list_all (speaks_below n) conds ≡ true) }
+    ensures speaks { IfOk result (λ conds. (n : ℕ) → a < n → b < n → list_all (speaks_below n) conds ≡ true) }
+    ensures all { IfOk result (λ conds. (value : ℕ → Value) →
+        list_all (holds value) conds ≡ (is_on (value a) && is_on (value b))) }
+    ensures any { IfOk result (λ conds. (value : ℕ → Value) →
+        list_any (holds value) conds ≡ (is_on (value a) || is_on (value b))) }
 {
     let mut conds = List::new(alloc);
     conds.push(Cond::On { supply: a })?;
@@ -59,9 +65,10 @@ fn both(alloc: Global, a: u32, b: u32) -> Result<List<Cond>, AllocError>
     Ok(conds)
 }
 /// Both supplies are on, or none is.
-#[tactic(auto, using(intent_defs::proofs::Meaning::speaking))]
+#[tactic(auto, using(intent_defs::proofs::Meaning::speaking, intent_defs::proofs::Meaning::holding))]
 fn alike(alloc: Global, a: u32, b: u32) -> Result<Cond, AllocError>
-    ensures { IfOk result (λ cond. (n : ℕ) → a < n → b < n → speaks_below n cond ≡ true) }
+    ensures speaks { IfOk result (λ cond. (n : ℕ) → a < n → b < n → speaks_below n cond ≡ true) }
+    ensures means { IfOk result (λ cond. (value : ℕ → Value) → holds value cond ≡ are_alike (value a) (value b)) }
 {
     let some = Boxed::new(alloc, Cond::Any(both(alloc, a, b)?))?;
     let mut conds = List::new(alloc);
@@ -71,9 +78,10 @@ fn alike(alloc: Global, a: u32, b: u32) -> Result<Cond, AllocError>
 }
 
 /// The second supply is on only where the first is.
-#[tactic(auto, using(intent_defs::proofs::Meaning::speaking))]
+#[tactic(auto, using(intent_defs::proofs::Meaning::speaking, intent_defs::proofs::Meaning::holding))]
 fn follows(alloc: Global, a: u32, b: u32) -> Result<Cond, AllocError>
-    ensures { IfOk result (λ cond. (n : ℕ) → a < n → b < n → speaks_below n cond ≡ true) }
+    ensures speaks { IfOk result (λ cond. (n : ℕ) → a < n → b < n → speaks_below n cond ≡ true) }
+    ensures means { IfOk result (λ cond. (value : ℕ → Value) → holds value cond ≡ is_after (value a) (value b)) }
 {
     let second = Boxed::new(alloc, Cond::On { supply: b })?;
     let mut conds = List::new(alloc);
@@ -84,7 +92,8 @@ fn follows(alloc: Global, a: u32, b: u32) -> Result<Cond, AllocError>
 
 /// The condition of a link.
 fn link_cond(alloc: Global, link: Link, a: u32, b: u32) -> Result<Cond, AllocError>
-    ensures { IfOk result (λ cond. (n : ℕ) → a < n → b < n → speaks_below n cond ≡ true) }
+    ensures speaks { IfOk result (λ cond. (n : ℕ) → a < n → b < n → speaks_below n cond ≡ true) }
+    ensures means { IfOk result (λ cond. (value : ℕ → Value) → holds value cond ≡ is_linked link (value a) (value b)) }
 {
     match link {
         Link::Beside => alike(alloc, a, b),

@@ -2,7 +2,7 @@
 
 ghost use Rattle.std.specs.Prelude.{◌≡◌, ◌<◌, ◌≤◌, ◌+◌, ◌-◌, IfOk, length, slice_index};
 ghost use Rattle.diagram_defs.specs.Diagrams.{AreArities, AreKids, IsPool, IsSet, Grows};
-ghost use Rattle.diagram_bench.specs.Rows.{ArePicked, IsOrZero};
+ghost use Rattle.diagram_bench.specs.Rows.{ArePicked};
 
 use crate::MAX_NODES;
 use pw_defs::DiagFault;
@@ -164,7 +164,7 @@ fn picked(
 
 /// The number at a place, or 0 past the last one.
 fn number_at(given: &[u32], at: usize) -> u32
-    ensures { IsOrZero given.now result }
+    ensures { result ≡ slice_index given.now at }
 {
     if at < given.len() { given[at] } else { 0 }
 }

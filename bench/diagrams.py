@@ -11,7 +11,8 @@ more ends there.
 - `chain`: N supplies, each on only where the one before is.
 - `random`: the intersection of two sets of about N nodes each that look random.
 
-The table has the nodes after the run, and those before the intersection where there is one.
+The table has the nodes after the run, and those before the intersection where there is one. A peak of memory below
+that of this script, some 11 MB, isn't seen.
 """
 import argparse
 import os

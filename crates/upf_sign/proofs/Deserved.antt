@@ -1,13 +1,12 @@
 -- The words deserve one answer over the files that a shelf holds, or have a fault.
-use Rattle.std.proofs.Common.{◌≡◌, ◌≢◌, ◌≤◌, ◌<◌, ℕ, true, false, ◌⊎◌, inl, inr, List, [], ◌∷◌, Option, Some, None, length, refl, sym, ap, subst, ◌∙◌, arith}
-use Rattle.std.specs.Prelude.{nat_lt, slice_get, codes}
+use Rattle.std.proofs.Common.{◌≡◌, ℕ, ◌⊎◌, inl, inr, List, [], ◌∷◌, refl, sym, ap, subst, ◌∙◌}
+use Rattle.std.specs.Prelude.{slice_get, codes}
 use Rattle.std.proofs.lemmas.Option.{none-some, same_Some}
 use Rattle.pw_defs.specs.declared.faults.Refusal.{Refusal}
-use Rattle.pw_outer.specs.Fetches.{Files, file_named}
+use Rattle.pw_outer.specs.Fetches.{Files}
 use Rattle.upf_sign.specs.declared.answers.Answer.{Answer}
 use Rattle.upf_sign.specs.declared.answers.Answer.TheVariants.{OtherForm, NoLegal}
-use Rattle.upf_sign.specs.Answers.{IsAnswer}
-use Rattle.upf_sign.specs.Faults.{IsAnsweredBy, IsFault, IsHeld, fault_at, file_faults, of_file, of_form, of_states}
+use Rattle.upf_sign.specs.Faults.{IsAnsweredBy, IsFault, IsHeld, file_faults, of_file, of_form, of_states}
 use Rattle.upf_sign.specs.Laws.{HasOneAnswer}
 use Rattle.upf_sign.specs.Runs.{Deserve}
 use Rattle.upf_sign.specs.Words.{Job, IsJob}

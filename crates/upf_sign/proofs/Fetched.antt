@@ -1,14 +1,13 @@
 -- What is wrong with the first of several files.
-use Rattle.std.proofs.Common.{◌≡◌, ◌≤◌, ◌<◌, ℕ, Bool, true, false, ◌⊎◌, inl, inr, List, Option, Some, None, Result, Ok, Err, length, refl, sym, ap, subst, ◌∙◌, arith}
+use Rattle.std.proofs.Common.{◌≡◌, ◌≤◌, ℕ, false, inl, inr, List, Option, Some, None, Result, Ok, Err, length, refl, sym, subst, arith}
 use Rattle.std.specs.Prelude.{IfSome, IfErr, IsErrAnd, nat_lt}
-use Rattle.std.proofs.lemmas.Option.{none-some}
 use Rattle.pw_defs.specs.declared.faults.LoadFault.{LoadFault}
 use Rattle.pw_defs.specs.declared.faults.LoadFault.TheVariants.{Refused, Outside, Memory}
 use Rattle.pw_defs.specs.declared.faults.Refusal.{Refusal}
 use Rattle.pw_outer.specs.Counts.{Counts, NoneFalls, Rose}
 use Rattle.pw_outer.specs.Fetches.{Files}
 use Rattle.pw_outer.specs.declared.shelves.TheConstants.{LONGEST_FILE}
-use Rattle.upf_sign.specs.Faults.{IsHeld, fault_at, file_fault}
+use Rattle.upf_sign.specs.Faults.{IsHeld, fault_at}
 use Rattle.upf_sign.specs.Fetching.{IsCounted, IsFaultAt, IsFirstFault, StopsFetch}
 use Rattle.upf_sign.specs.Words.{Job}
 

@@ -1,10 +1,10 @@
 -- What is seen of a run whose report is finished.
-use Rattle.std.proofs.Common.{◌≡◌, ◌≢◌, ◌+◌, ◌≤◌, ℕ, Bool, true, false, ◌⊎◌, inl, inr, List, ◌++◌, Option, Some, None, length, take, refl, sym, ap, subst, ◌∙◌}
+use Rattle.std.proofs.Common.{◌≡◌, ℕ, Bool, true, false, ◌⊎◌, inl, inr, List, Option, length, refl, sym, ap, subst, ◌∙◌}
 use Rattle.std.specs.Prelude.{IfSome}
 use Rattle.std.proofs.Math.Seq.{take-length}
 use Rattle.pw_defs.specs.declared.faults.Refusal.{Refusal}
 use Rattle.pw_defs.specs.declared.status.Status.{Status}
-use Rattle.pw_defs.specs.declared.status.Status.TheVariants.{Clean, Findings, Refused, Usage, Bound, Outside, Memory}
+use Rattle.pw_defs.specs.declared.status.Status.TheVariants.{Clean, Findings, Refused, Outside, Memory}
 use Rattle.pw_outer.specs.Counts.{Counts, Rose}
 use Rattle.pw_outer.specs.Fetches.{Files}
 use Rattle.pw_outer.specs.Puts.{Grew, GrewByFront}
@@ -13,9 +13,9 @@ use Rattle.upf_sign.specs.declared.answers.Answer.TheVariants.{Report, OtherForm
 use Rattle.upf_sign.specs.Faults.{IsFault}
 use Rattle.upf_sign.specs.Laws.{HasOneAnswer}
 use Rattle.upf_sign.specs.RefusalText.{IsReason, outside, memory, outside_line, memory_line}
-use Rattle.upf_sign.specs.Runs.{Deserve, HasReport, IsUndisturbed, KeepsErrors, KeepsOutput, Outputs, TookLine, status_of, status_for}
+use Rattle.upf_sign.specs.Runs.{Deserve, IsUndisturbed, TookLine, status_of, status_for}
 use Rattle.upf_sign.specs.Telling.{Says, Delivers, whole, failed, out_of_memory}
-use Rattle.upf_sign.specs.Words.{Job, IsJob, IsNoJob, HasJob}
+use Rattle.upf_sign.specs.Words.{Job, IsJob}
 use Rattle.upf_sign.proofs.Deserved.{deserved_once, fault_deserves}
 use Rattle.upf_sign.proofs.Fetched.{on_some}
 

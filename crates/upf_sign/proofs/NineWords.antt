@@ -1,6 +1,6 @@
 -- A list of nine words, read word by word.
 use Rattle.std.proofs.Common.{◌≡◌, ℕ, ◌<◌, ◌≤◌, List, [], ◌∷◌, get_or, length, map, arith}
-use Rattle.upf_sign.specs.Words.{Job, HasValues, IsJob, IsNoJob}
+use Rattle.upf_sign.specs.Words.{Job, HasValues, IsJob}
 use Rattle.upf_sign.specs.Jobs.{AreOptions}
 
 -- nine things are those that are read of them

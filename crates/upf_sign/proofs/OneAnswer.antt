@@ -1,5 +1,5 @@
 -- Texts mean one design with one intent, and have one answer.
-use Rattle.std.proofs.Common.{◌≡◌, ◌≢◌, ◌<◌, ◌≤◌, ℕ, List, Option, Some, map, sym, ap, subst, ◌∙◌, refl, arith}
+use Rattle.std.proofs.Common.{◌≡◌, ℕ, List, Option, map, sym, ap, subst, ◌∙◌, refl, arith}
 use Rattle.std.specs.List.{filter_map, enumerate_from}
 use Rattle.std.proofs.lemmas.Cmp.{nat_list_cmp_total}
 use Rattle.std.proofs.lemmas.Option.{same_Some}
@@ -39,7 +39,7 @@ use Rattle.form_intent.specs.Intent.{IsIntentOf, domain_with, supply_names}
 use Rattle.checks.specs.Laws.{HasOneReport}
 use Rattle.upf_sign.specs.declared.answers.Answer.{Answer}
 use Rattle.upf_sign.specs.declared.answers.Answer.TheVariants.{Report, OtherForm, NoLegal, Bound}
-use Rattle.upf_sign.specs.Answers.{IsJudged, IsAnswer, IsAnswerOn, has_none}
+use Rattle.upf_sign.specs.Answers.{IsJudged, IsAnswerOn, has_none}
 use Rattle.upf_sign.specs.Laws.{HasOneAnswer}
 use Rattle.upf_sign.specs.Loaded.{HasDesign, HasIntent, IsLoaded}
 use Rattle.upf_sign.proofs.Meant.{one_design}

@@ -1,12 +1,9 @@
 -- What is planned for the words of a run.
-use Rattle.std.proofs.Common.{◌≡◌, ℕ, ◌⊎◌, inl, inr, List, Option, Some, None, Result, Ok, Err, sym, ap, subst, refl}
+use Rattle.std.proofs.Common.{◌≡◌, ℕ, inl, inr, List, Option, Result, Ok, Err, ap}
 use Rattle.std.specs.Prelude.{IfSome, IfOk, IfErr}
-use Rattle.pw_defs.specs.declared.faults.Code.{Code}
 use Rattle.pw_defs.specs.declared.faults.Code.TheVariants.{F1, F2, U17, Z1}
-use Rattle.pw_defs.specs.declared.faults.LoadFault.{LoadFault}
-use Rattle.pw_defs.specs.declared.faults.LoadFault.TheVariants.{Refused as RefusedFault, Outside as OutsideFault, Memory as MemoryFault}
 use Rattle.pw_defs.specs.declared.faults.Refusal.{Refusal}
-use Rattle.pw_outer.specs.Counts.{Counts, Rose}
+use Rattle.pw_outer.specs.Counts.{Counts}
 use Rattle.pw_outer.specs.Fetches.{Files}
 use Rattle.upf_sign.specs.declared.answers.Answer.{Answer}
 use Rattle.upf_sign.specs.declared.answers.Answer.TheVariants.{Report, OtherForm, NoLegal, Bound as BoundAnswer}
@@ -14,9 +11,9 @@ use Rattle.upf_sign.specs.declared.fetching.Texts.{Texts}
 use Rattle.upf_sign.specs.declared.planning.Finished.{Finished}
 use Rattle.upf_sign.specs.declared.planning.Stop.{Stop}
 use Rattle.upf_sign.specs.declared.planning.Stop.TheVariants.{Usage, Refused, Bound, Outside, Memory}
-use Rattle.upf_sign.specs.Faults.{IsAnsweredBy, form_fault, legal_fault, of_file, of_form, of_states}
-use Rattle.upf_sign.specs.Fetching.{HasTexts, IsCounted, IsFirstFault, StopsFetch}
-use Rattle.upf_sign.specs.Planning.{Answers, IsAnswerTo, Stops, stop_of}
+use Rattle.upf_sign.specs.Faults.{IsAnsweredBy, of_form, of_states}
+use Rattle.upf_sign.specs.Fetching.{HasTexts}
+use Rattle.upf_sign.specs.Planning.{Answers, IsAnswerTo, Stops}
 use Rattle.upf_sign.specs.Runs.{Deserve, ShowsInCounts}
 use Rattle.upf_sign.specs.Words.{Job, IsJob}
 use Rattle.upf_sign.proofs.Fetched.{on_some}

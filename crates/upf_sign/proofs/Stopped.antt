@@ -1,25 +1,25 @@
 -- What is seen of a run that has no report.
-use Rattle.std.proofs.Common.{◌≡◌, ◌≢◌, ℕ, Bool, ◌⊎◌, inl, inr, List, Option, Some, None, refl, sym, ap, subst, ◌∙◌}
+use Rattle.std.proofs.Common.{◌≡◌, ℕ, ◌⊎◌, inl, inr, List, Option, Some, None, refl, sym, ap, ◌∙◌}
 use Rattle.std.specs.Prelude.{IfSome}
 use Rattle.pw_defs.specs.declared.faults.Refusal.{Refusal}
 use Rattle.pw_defs.specs.declared.status.Status.{Status}
-use Rattle.pw_defs.specs.declared.status.Status.TheVariants.{Clean, Findings, Refused, Usage, Bound, Outside, Memory}
-use Rattle.pw_outer.specs.Counts.{Counts, Rose}
+use Rattle.pw_defs.specs.declared.status.Status.TheVariants.{Refused, Usage, Bound, Outside, Memory}
+use Rattle.pw_outer.specs.Counts.{Counts}
 use Rattle.pw_outer.specs.Fetches.{Files}
 use Rattle.pw_outer.specs.Puts.{GrewByFront}
 use Rattle.upf_sign.specs.declared.answers.Answer.{Answer}
-use Rattle.upf_sign.specs.declared.answers.Answer.TheVariants.{Report, OtherForm, NoLegal, Bound as BoundAnswer}
+use Rattle.upf_sign.specs.declared.answers.Answer.TheVariants.{OtherForm, NoLegal, Bound as BoundAnswer}
 use Rattle.upf_sign.specs.declared.planning.Stop.{Stop}
 use Rattle.upf_sign.specs.declared.planning.Stop.TheVariants.{Usage as UsageStop, Refused as RefusedStop, Bound as BoundStop, Outside as OutsideStop, Memory as MemoryStop}
 use Rattle.upf_sign.specs.Faults.{IsFault}
 use Rattle.upf_sign.specs.Laws.{HasOneAnswer}
 use Rattle.upf_sign.specs.Planning.{Stops}
 use Rattle.upf_sign.specs.RefusalText.{IsReason, refused, usage, bound, outside, memory, refusal_text, usage_line, bound_line, outside_line, memory_line}
-use Rattle.upf_sign.specs.Runs.{Deserve, IsRefused, IsUndisturbed, KeepsErrors, KeepsOutput, Outputs, TookLine, status_for}
+use Rattle.upf_sign.specs.Runs.{Deserve, IsUndisturbed, TookLine, status_for}
 use Rattle.upf_sign.specs.Telling.{Says, Tells}
-use Rattle.upf_sign.specs.Words.{Job, IsJob, IsNoJob, HasJob}
-use Rattle.upf_sign.proofs.Deserved.{deserved_once, fault_deserves, one_job}
-use Rattle.upf_sign.proofs.Fetched.{on_some, held_at}
+use Rattle.upf_sign.specs.Words.{Job, IsJob, IsNoJob}
+use Rattle.upf_sign.proofs.Deserved.{deserved_once, fault_deserves}
+use Rattle.upf_sign.proofs.Fetched.{held_at}
 use Rattle.upf_sign.proofs.Finished.{took_front}
 
 -- the status of each reason

@@ -2,7 +2,6 @@
 use Rattle.std.specs.Prelude.{◌≡◌, ◌⊎◌, ℕ, List, Option, Result, Ok, Err, IfSome}
 use Rattle.pw_defs.specs.declared.faults.LoadFault.{LoadFault}
 use Rattle.pw_defs.specs.declared.faults.LoadFault.TheVariants.{Refused as RefusedFault, Outside as OutsideFault, Memory as MemoryFault}
-use Rattle.pw_defs.specs.declared.faults.Refusal.{Refusal}
 use Rattle.pw_outer.specs.Counts.{Counts, Rose}
 use Rattle.pw_outer.specs.Fetches.{Files}
 use Rattle.upf_sign.specs.declared.answers.Answer.{Answer}

@@ -1,5 +1,5 @@
 -- The lines that say why there is no report. Each ends with a newline.
-use Rattle.std.specs.Prelude.{◌≡◌, ℕ, ◌⊎◌, List, [], ◌∷◌, ◌++◌, codes, decimal}
+use Rattle.std.specs.Prelude.{◌≡◌, ℕ, List, [], ◌∷◌, ◌++◌, codes, decimal}
 use Rattle.pw_defs.specs.declared.faults.Code.{Code}
 use Rattle.pw_defs.specs.declared.faults.Code.TheVariants.{F1, F2, L1, L2, L3, N1, N2, N3, N4, N5, N6, N7, N8, N9, N10, N11, N12, M1, M2, M3, M4, M5, M6, T1, T2, T3, T4, U1, U2, U3, U4, U5, U6, U7, U8, U9, U10, U11, U12, U13, U14, U15, U16, U17, U18, X1, X2, X3, X4, X5, Z1}
 use Rattle.pw_defs.specs.declared.faults.Refusal.{Refusal}

@@ -1,6 +1,5 @@
-use Rattle.std.proofs.Common.{◌≡◌, ℕ, refl, Some}
-use Rattle.upf_sign.specs.Faults.{fault_at}
-use Rattle.upf_sign.specs.Fetching.{IsFaultAt, IsFirstFault, StopsFetch}
+use Rattle.std.proofs.Common.{refl}
+use Rattle.upf_sign.specs.Fetching.{IsFaultAt, IsFirstFault}
 use Rattle.upf_sign.specs.Jobs.{job_in}
 use Rattle.upf_sign.proofs.Fetched.{err_is, first_at_library, first_at_netlist, held_at, same_counts, stops_after}
 use Rattle.upf_sign.proofs.fetching.fetch_texts.Goals as goal

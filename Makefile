@@ -1,6 +1,7 @@
 # The commands of this repository. They need the Rattle kit's `rt`, and Python 3 for the cases and the benchmarks.
 
 PROGRAM := crates/upfsign/out/upfsign
+DIAGRAMS := crates/diagram_bench/out/diagram_bench
 SOURCES := crates.txt $(shell find crates -name '*.rt' -o -name '*.antt')
 EXAMPLE := examples/first-path
 # A job without findings, so that its run ends with exit status 0.
@@ -20,9 +21,13 @@ test:
 cases: $(PROGRAM)
 	python3 tests/run.py $(PROGRAM)
 
-bench: $(PROGRAM)
-	python3 bench/first_form.py $(PROGRAM)
+bench: $(PROGRAM) $(DIAGRAMS)
+	python3 bench/first_form.py $(PROGRAM) --big
+	python3 bench/diagrams.py $(DIAGRAMS)
 
 # Proves the program and all crates below it, and builds it.
 $(PROGRAM): $(SOURCES)
 	cd crates/upfsign && rt run -- $(CLEAN_JOB)
+
+$(DIAGRAMS): $(SOURCES)
+	cd crates/diagram_bench && rt run -- pairs 1

@@ -4,3 +4,4 @@ pub mod Fits
 pub mod Designs
 pub mod Sound
 pub mod Results
+pub mod Depth

@@ -2,7 +2,8 @@
 ghost use Rattle.std.specs.Prelude.{◌≡◌, count_by, IfOk};
 ghost use Rattle.std.specs.List.{list_all, filter_map};
 ghost use Rattle.form_design.specs.Names.{inst_of, body_named};
-ghost use Rattle.form_design.specs.Fits.{is_data, is_data_pin, is_output_pin, is_plain, has_roles, is_connected, fits_body, is_placed, all_placed, passes, is_plain_cell, holds_plain_cells, is_shallow, top_is_shallow};
+ghost use Rattle.form_design.specs.Fits.{is_data, is_data_pin, is_output_pin, is_plain, has_roles, is_connected, fits_body, is_placed, all_placed, passes, is_plain_cell, holds_plain_cells, top_is_shallow};
+ghost use Rattle.form_design.specs.Depth.{plain_holders, is_shallow_by, are_shallow_by};
 
 use crate::names::Names;
 use crate::words;
@@ -176,36 +177,42 @@ fn holds_plain_cells(names: &Names, cells: &List<CellLines>, items: &[ItemLine])
     true
 }
 
-fn is_shallow(
+/// Whether each module holds plain cells alone.
+fn plain_holders(
+    alloc: Global,
     names: &Names,
     cells: &List<CellLines>,
-    modules: &List<ModuleLines>,
-    body: Body,
-) -> bool
-    ensures { result ≡ is_shallow names.now cells.now modules.now body }
+    modules: &[ModuleLines],
+) -> Result<Vec<bool>, Memory>
+    ensures { IfOk result (λ plain. plain.items ≡ plain_holders names.now cells.now modules.now) }
+{
+    let mut plain = Vec::new(alloc);
+    for lines in modules {
+        plain.push(holds_plain_cells(names, cells, lines.items.as_slice()))?;
+    }
+    Ok(plain)
+}
+
+fn is_shallow(cells: &List<CellLines>, plain: &[bool], body: Body) -> bool
+    ensures { result ≡ is_shallow_by cells.now plain.now body }
 {
     match body {
         Body::Cell(_) => is_plain_cell(cells, body),
-        Body::Module(holder) => match modules.get(holder) {
-            Some(lines) => holds_plain_cells(names, cells, lines.items.as_slice()),
+        Body::Module(holder) => match plain.get(holder as usize) {
+            Some(holds) => *holds,
             None => true,
         },
         Body::Model(_) => false,
     }
 }
 
-fn are_shallow(
-    names: &Names,
-    cells: &List<CellLines>,
-    modules: &List<ModuleLines>,
-    items: &[ItemLine],
-) -> bool
-    ensures { result ≡ list_all (λ i. passes (is_shallow names.now cells.now modules.now) (body_named names.now i.kind)) (filter_map inst_of items.now) }
+fn are_shallow(names: &Names, cells: &List<CellLines>, plain: &[bool], items: &[ItemLine]) -> bool
+    ensures { result ≡ are_shallow_by names.now cells.now plain.now (filter_map inst_of items.now) }
 {
     for item in items {
         if let ItemLine::Inst(line) = item {
             let is_shallow = match names.body_named(line.kind.as_slice()) {
-                Some(body) => is_shallow(names, cells, modules, body),
+                Some(body) => is_shallow(cells, plain, body),
                 None => false,
             };
             if !is_shallow {
@@ -218,15 +225,18 @@ fn are_shallow(
 
 /// Whether what the top holds is a plain cell, or a module that holds plain cells alone.
 pub(crate) fn top_is_shallow(
+    alloc: Global,
     names: &Names,
     cells: &List<CellLines>,
     modules: &List<ModuleLines>,
     top: u32,
-) -> bool
-    ensures { result ≡ top_is_shallow names.now cells.now modules.now top }
+) -> Result<bool, Memory>
+    ensures { IfOk result (λ shallow. shallow ≡ top_is_shallow names.now cells.now modules.now top) }
 {
-    match modules.get(top) {
-        Some(lines) => are_shallow(names, cells, modules, lines.items.as_slice()),
+    let plain = plain_holders(alloc, names, cells, modules.as_slice())?;
+    let shallow = match modules.get(top) {
+        Some(lines) => are_shallow(names, cells, plain.as_slice(), lines.items.as_slice()),
         None => true,
-    }
+    };
+    Ok(shallow)
 }

@@ -100,7 +100,7 @@ fn hierarchy_of(
         (top_fits_by names.now lines.now modules.now top ≡ false)
         (λ h. IsHierarchy names.now lines.now modules.now top h.helds.items h.bits.items)) }
 {
-    if !checks::top_is_shallow(names, lines, modules, top) {
+    if !checks::top_is_shallow(alloc, names, lines, modules, top)? {
         return Ok(None);
     }
     let Some(helds) = helds(alloc, names, modules, top)? else {

@@ -4,12 +4,12 @@ ghost use Rattle.std.specs.List.{list_all};
 ghost use Rattle.base_defs.specs.Members.{all_differ, same_name};
 ghost use Rattle.form_design.specs.Names.{table_of, names as names_of};
 ghost use Rattle.form_design.specs.Hierarchy.{size, starts_from, lines_at, helds, bits};
-ghost use Rattle.form_design.specs.Fits.{has_one_feeder, hierarchy_fits, top_fits_by, top_fits, design_fits};
+ghost use Rattle.form_design.specs.Fits.{has_size, has_one_feeder, hierarchy_fits, top_fits_by, top_fits, design_fits};
 ghost use Rattle.form_design.specs.Designs.{design_with};
 ghost use Rattle.form_design.specs.Sound.{AreHeld};
 ghost use Rattle.form_design.specs.Results.{IsHierarchy, IsDesignOver, IsDesignOf};
 
-use crate::hierarchy::{Held, helds};
+use crate::hierarchy::{Held, children, helds};
 use crate::names::Names;
 use crate::{cells, checks, indices, wiring, words};
 use line_forms::{CellLines, ModuleLines};
@@ -87,6 +87,25 @@ struct Hierarchy {
     bits: Vec<Bit>,
 }
 
+/// The top with all instances below it, which is `None` where it has too many instances or bits. The bits of the
+/// instances in it are counted first, so that what they hold is gone through only where there can be room for it.
+fn held_in(
+    alloc: Global,
+    names: &Names,
+    modules: &List<ModuleLines>,
+    top: u32,
+) -> Result<Option<Vec<Held>>, Memory>
+    ensures { IfOk result (λ r. MatchOption r
+        (has_size names.now (helds names.now modules.now top) ≡ false)
+        (λ hs. (hs.items ≡ helds names.now modules.now top) × (length hs.items ≤ 1000000))) }
+{
+    let in_top = children(alloc, names, modules, top)?;
+    match wiring::starts(alloc, names, in_top.as_slice())? {
+        Some(_) => helds(alloc, names, modules, top, in_top),
+        None => Ok(None),
+    }
+}
+
 /// What a top holds, which is `None` where it isn't of the form.
 fn hierarchy_of(
     alloc: Global,
@@ -103,7 +122,7 @@ fn hierarchy_of(
     if !checks::top_is_shallow(alloc, names, lines, modules, top)? {
         return Ok(None);
     }
-    let Some(helds) = helds(alloc, names, modules, top)? else {
+    let Some(helds) = held_in(alloc, names, modules, top)? else {
         return Ok(None);
     };
     Ok(match bits_of(alloc, names, helds.as_slice())? {

@@ -177,16 +177,14 @@ fn below(
     Ok(Some(below))
 }
 
-/// All instances, which is `None` where there are more than the limit.
-pub(crate) fn helds(
+/// The instances in the top.
+pub(crate) fn children(
     alloc: Global,
     names: &Names,
     modules: &List<ModuleLines>,
     top: u32,
-) -> Result<Option<Vec<Held>>, Memory>
-    ensures { IfOk result (λ r. MatchOption r
-        (1000000 < length (helds names.now modules.now top))
-        (λ hs. (hs.items ≡ helds names.now modules.now top) × (length hs.items ≤ 1000000))) }
+) -> Result<Vec<Held>, Memory>
+    ensures { IfOk result (λ held. held.items ≡ children names.now modules.now top) }
 {
     let mut children = Vec::new(alloc);
     add_held(
@@ -198,18 +196,34 @@ pub(crate) fn helds(
         Body::Module(top),
         &mut children,
     )?;
-    if children.len() >= MAX_INSTANCES {
+    Ok(children)
+}
+
+/// All instances, which is `None` where there are more than the limit.
+pub(crate) fn helds(
+    alloc: Global,
+    names: &Names,
+    modules: &List<ModuleLines>,
+    top: u32,
+    mut in_top: Vec<Held>,
+) -> Result<Option<Vec<Held>>, Memory>
+    requires { in_top.items ≡ children names.now modules.now top }
+    ensures { IfOk result (λ r. MatchOption r
+        (1000000 < length (helds names.now modules.now top))
+        (λ hs. (hs.items ≡ helds names.now modules.now top) × (length hs.items ≤ 1000000))) }
+{
+    if in_top.len() >= MAX_INSTANCES {
         return Ok(None);
     }
-    let Some(mut below) = below(alloc, names, modules, children.as_slice())? else {
+    let Some(mut below) = below(alloc, names, modules, in_top.as_slice())? else {
         return Ok(None);
     };
-    if below.len() >= MAX_INSTANCES - children.len() {
+    if below.len() >= MAX_INSTANCES - in_top.len() {
         return Ok(None);
     }
     let mut all = Vec::new(alloc);
     all.push(top_held(alloc, top)?)?;
-    all.append(&mut children)?;
+    all.append(&mut in_top)?;
     all.append(&mut below)?;
     Ok(Some(all))
 }

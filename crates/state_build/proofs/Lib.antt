@@ -1,4 +1,5 @@
 pub mod Entering
+pub mod Lowering
 pub mod Pairing
 pub mod Singles
 pub mod Tested

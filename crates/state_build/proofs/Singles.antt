@@ -1,31 +1,39 @@
 -- The value at one level.
-use Rattle.std.proofs.Common.{◌≡◌, ℕ, ◌-◌, ◌<◌, Bool, ◌&&◌, List, [], length, get_or, sym, ap, ◌∙◌, arith, slice_index, slice_index_or}
-use Rattle.std.proofs.lemmas.List.{get_or_default}
+use Rattle.std.proofs.Common.{◌≡◌, ℕ, ◌+◌, ◌-◌, ◌<◌, Bool, ◌&&◌, List, [], length, get_or, drop, sym, ap, ◌∙◌, arith, slice_index, slice_index_or}
+use Rattle.std.proofs.lemmas.List.{get_or_default, get_or-drop}
 use Rattle.pw_defs.specs.declared.values.Value.{Value}
 use Rattle.pw_defs.specs.declared.values.Value.TheVariants.{Off}
 use Rattle.pw_defs.specs.declared.conditions.Cond.TheVariants.{Is, On}
 use Rattle.intent_defs.proofs.Meaning.{holds_is, holds_on}
 use Rattle.diagram_defs.specs.Rests.{is_rest}
+use Rattle.diagram_defs.specs.Diagrams.{Diagram, IsPool}
+use Rattle.diagram_defs.specs.Sets.{widened_set}
 use Rattle.state_build.specs.declared.levels.ValueTest.{ValueTest}
 use Rattle.state_build.specs.declared.levels.ValueTest.TheVariants as tests
 use Rattle.state_build.specs.Built.{value_of, built_set}
-use Rattle.state_build.specs.ValueTests.{passes, passing_set}
+use Rattle.state_build.specs.ValueTests.{passes, chosen_set}
+use Rattle.state_build.proofs.Tested.{tested_widened}
 
 -- the list of a level, as the code reads it
 pub list_read : (lists : List (List Value)) (level : ℕ) (read found : List Value) → level < length lists → found ≡ get_or lists level found → read ≡ found → read ≡ get_or lists level []
 list_read lists level read found inside is same = same ∙ is ∙ get_or_default lists level found [] inside
 
 -- whole states by the value at a level
-module _ (arities : List ℕ) (lists : List (List Value)) (level : ℕ) (values : List Value) (is : values ≡ get_or lists level []) (state : List ℕ) where
-  passing_whole : (test : ValueTest) → passing_set arities 0 level values test state ≡ (is_rest arities state && passes test (value_of lists state level))
-  passing_whole test =
-      let place : level - 0 ≡ level = omega arith in
-      ap (λ (k : ℕ). is_rest arities state && passes test (slice_index_or values (slice_index state k) Off)) place
-      ∙ ap (λ (vs : List Value). is_rest arities state && passes test (slice_index_or vs (slice_index state level) Off)) is
+module _ (old : Diagram) (pool : IsPool old) (lists : List (List Value)) (level : ℕ) (inside : level < length old.arities) (values : List Value) (is : values ≡ get_or lists level []) where
+  at_level : (test : ValueTest) (state : List ℕ) → passes test (slice_index_or values (slice_index (drop (level - 0) state) 0) Off) ≡ passes test (value_of lists state level)
+  at_level test state =
+      let place : level - 0 + 0 ≡ level = omega arith in
+      let index = get_or-drop (level - 0) state 0 0 ∙ ap (λ (k : ℕ). get_or state k 0) place in
+      λ i. passes test (slice_index_or (is i) (index i) Off)
 
-  pub passing_is : (value : Value) → passing_set arities 0 level values (tests.Is value) state ≡ built_set arities lists (Is level value) state
-  passing_is value =
-      passing_whole (tests.Is value) ∙ ap (λ (b : Bool). is_rest arities state && b) (sym (holds_is (value_of lists state) level value))
+  chosen_whole : (test : ValueTest) (state : List ℕ) → widened_set old 0 level (chosen_set old.arities level values test) state ≡ (is_rest old.arities state && passes test (value_of lists state level))
+  chosen_whole test =
+      tested_widened old pool 0 level (omega arith) (omega arith) (λ rest. passes test (slice_index_or values (slice_index rest 0) Off)) (λ state. passes test (value_of lists state level)) (at_level test)
 
-  pub passing_on : passing_set arities 0 level values tests.On state ≡ built_set arities lists (On level) state
-  passing_on = passing_whole tests.On ∙ ap (λ (b : Bool). is_rest arities state && b) (sym (holds_on (value_of lists state) level))
+  pub chosen_is : (value : Value) (state : List ℕ) → widened_set old 0 level (chosen_set old.arities level values (tests.Is value)) state ≡ built_set old.arities lists (Is level value) state
+  chosen_is value state =
+      chosen_whole (tests.Is value) state ∙ ap (λ (b : Bool). is_rest old.arities state && b) (sym (holds_is (value_of lists state) level value))
+
+  pub chosen_on : (state : List ℕ) → widened_set old 0 level (chosen_set old.arities level values tests.On) state ≡ built_set old.arities lists (On level) state
+  chosen_on state =
+      chosen_whole tests.On state ∙ ap (λ (b : Bool). is_rest old.arities state && b) (sym (holds_on (value_of lists state) level))

@@ -30,7 +30,7 @@ pub tested_behind : (arities : List ℕ) (level v : ℕ) (test : List ℕ → Bo
 tested_behind arities level v test rest inside low =
     ap (λ (m : Bool). m && test (v ∷ rest)) (sym (rest_behind arities level inside v rest low))
 
-guard : (a b c d : Bool) → (a ≡ true → b ≡ true) → c ≡ d → (a && (b && c)) ≡ (a && d)
+pub guard : (a b c d : Bool) → (a ≡ true → b ≡ true) → c ≡ d → (a && (b && c)) ≡ (a && d)
 guard true b c d h e = ap (λ (m : Bool). m && c) (h refl) ∙ e
 guard false b c d h e = refl
 

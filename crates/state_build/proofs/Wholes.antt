@@ -8,8 +8,6 @@ use Rattle.pw_defs.specs.declared.conditions.Cond.TheVariants.{True, Not, All, A
 use Rattle.intent_defs.specs.Conditions.{holds}
 use Rattle.intent_defs.proofs.Meaning.{holds_true, holds_not, holds_all, holds_any}
 use Rattle.diagram_defs.specs.Rests.{is_rest}
-use Rattle.diagram_defs.specs.Diagrams.{Diagram, IsNumberFor, Grows}
-use Rattle.diagram_defs.specs.Sets.{and_set, or_set, complement_set}
 use Rattle.state_build.specs.Built.{value_of, built_set}
 use Rattle.state_build.proofs.Tested.{and_none, and_true}
 
@@ -35,12 +33,12 @@ module _ (arities : List ℕ) (lists : List (List Value)) (state : List ℕ) whe
   pub built_any_none : built_set arities lists (Any []) state ≡ false
   built_any_none = ap (λ (b : Bool). is_rest arities state && b) (holds_any (value_of lists state) []) ∙ and_none (is_rest arities state)
 
-  built_not : (part : Cond) → (is_rest arities state && not (built_set arities lists part state)) ≡ built_set arities lists (Not part) state
+  pub built_not : (part : Cond) → (is_rest arities state && not (built_set arities lists part state)) ≡ built_set arities lists (Not part) state
   built_not part =
       without (is_rest arities state) (holds (value_of lists state) part) ∙ ap (λ (b : Bool). is_rest arities state && b) (sym (holds_not (value_of lists state) part))
 
   module _ (parts : List Cond) (i : ℕ) (part : Cond) (inside : i < length parts) (is : part ≡ get_or parts i part) where
-    built_all_more : (built_set arities lists (All (take i parts)) state && built_set arities lists part state) ≡ built_set arities lists (All (take (i + 1) parts)) state
+    pub built_all_more : (built_set arities lists (All (take i parts)) state && built_set arities lists part state) ≡ built_set arities lists (All (take (i + 1) parts)) state
     built_all_more =
         let value = value_of lists state in
         let here = ap (holds value) (sym is) in
@@ -49,7 +47,7 @@ module _ (arities : List ℕ) (lists : List (List Value)) (state : List ℕ) whe
         ∙ ap (λ (b : Bool). is_rest arities state && (list_all (holds value) (take i parts) && b)) (sym here)
         ∙ ap (λ (b : Bool). is_rest arities state && b) (sym (holds_all value (take (i + 1) parts) ∙ list_all_more (holds value) parts i part inside))
 
-    built_any_more : (built_set arities lists (Any (take i parts)) state || built_set arities lists part state) ≡ built_set arities lists (Any (take (i + 1) parts)) state
+    pub built_any_more : (built_set arities lists (Any (take i parts)) state || built_set arities lists part state) ≡ built_set arities lists (Any (take (i + 1) parts)) state
     built_any_more =
         let value = value_of lists state in
         let here = ap (holds value) (sym is) in
@@ -57,27 +55,3 @@ module _ (arities : List ℕ) (lists : List (List Value)) (state : List ℕ) whe
         ∙ with_one (is_rest arities state) (list_any (holds value) (take i parts)) (holds value part)
         ∙ ap (λ (b : Bool). is_rest arities state && (list_any (holds value) (take i parts) || b)) (sym here)
         ∙ ap (λ (b : Bool). is_rest arities state && b) (sym (holds_any value (take (i + 1) parts) ∙ list_any_more (holds value) parts i part inside))
-
--- the operations on numbers of sets of conditions
-module _ (old mid : Diagram) (g : Grows old mid) (lists : List (List Value)) where
-  pub complement_built : (part : Cond) (n : ℕ) → IsNumberFor mid 0 (built_set old.arities lists part) n → (state : List ℕ) → complement_set mid 0 n state ≡ built_set old.arities lists (Not part) state
-  complement_built part n is state =
-      let full = ap (λ (arities : List ℕ). is_rest arities state) g.arities in
-      let set = is.same state in
-      let both : complement_set mid 0 n state ≡ (is_rest old.arities state && not (built_set old.arities lists part state)) = λ i. full i && not (set i) in
-      both ∙ built_not old.arities lists state part
-
-  module _ (parts : List Cond) (i : ℕ) (part : Cond) (inside : i < length parts) (is : part ≡ get_or parts i part) (n set : ℕ) (second : IsNumberFor mid 0 (built_set old.arities lists part) set) (state : List ℕ) where
-    pub and_built : IsNumberFor mid 0 (built_set old.arities lists (All (take i parts))) n → and_set mid.nodes n set state ≡ built_set old.arities lists (All (take (i + 1) parts)) state
-    and_built first =
-        let one = first.same state in
-        let two = second.same state in
-        let both : and_set mid.nodes n set state ≡ (built_set old.arities lists (All (take i parts)) state && built_set old.arities lists part state) = λ j. one j && two j in
-        both ∙ built_all_more old.arities lists state parts i part inside is
-
-    pub or_built : IsNumberFor mid 0 (built_set old.arities lists (Any (take i parts))) n → or_set mid.nodes n set state ≡ built_set old.arities lists (Any (take (i + 1) parts)) state
-    or_built first =
-        let one = first.same state in
-        let two = second.same state in
-        let both : or_set mid.nodes n set state ≡ (built_set old.arities lists (Any (take i parts)) state || built_set old.arities lists part state) = λ j. one j || two j in
-        both ∙ built_any_more old.arities lists state parts i part inside is

@@ -1,3 +1,4 @@
 pub mod Built
 pub mod Entries
+pub mod Held
 pub mod ValueTests

@@ -9,18 +9,20 @@ ghost use Rattle.diagram_defs.specs.Parts.{GrowsBy, IsPartOf};
 ghost use Rattle.diagram_defs.specs.Answers.{IsCause};
 ghost use Rattle.state_build.specs.Built.{built_set};
 ghost use Rattle.state_build.specs.Entries.{IsPartOfEntry};
+ghost use Rattle.state_build.specs.Held.{IsLocalFor};
 
-use crate::levels::{ValueTest, passing};
+use crate::levels::{ValueTest, chosen};
+use crate::locals::{Local, aligned, everything, nothing};
 use crate::pairs::apart;
 use pw_defs::{Cond, DiagFault, List, Value};
 use state_diagrams::Pool;
 
 /// The number of the whole states at which the condition holds, by the values that their indices stand for. There is
-/// a list of values for each level, and the condition's supplies are levels.
+/// a list of values for each level, and the condition's supplies are levels. A condition inside is built from the
+/// least supply on that it speaks of, and gets any values of the supplies before only where it is joined with another.
 ///
 /// `Bound` comes only where the table is full and one of these has no node: a part of the condition's set, of the set
 /// of a condition inside it, or of the first ones of an `All` or an `Any`.
-#[cycle(build)]
 pub fn build(pool: &mut Pool, lists: &[List<Value>], cond: &Cond) -> Result<u32, DiagFault>
     requires lists { map length lists.now ≡ pool.old.arities }
     requires levels { speaks_below (length lists.now) cond.now ≡ true }
@@ -28,8 +30,21 @@ pub fn build(pool: &mut Pool, lists: &[List<Value>], cond: &Cond) -> Result<u32,
     ensures grows { GrowsBy (IsPartOfEntry pool.old.arities lists.now cond.now) pool.old pool.new }
     ensures cause { IfErr result (IsCause pool.new (IsPartOfEntry pool.old.arities lists.now cond.now)) }
 {
+    let local = local_of(pool, lists, cond)?;
+    pool.widen(0, local.level, local.number)
+}
+
+/// The whole states at which a condition holds, by the values from the least supply on that it speaks of.
+#[cycle(local_of)]
+fn local_of(pool: &mut Pool, lists: &[List<Value>], cond: &Cond) -> Result<Local, DiagFault>
+    requires lists { map length lists.now ≡ pool.old.arities }
+    requires levels { speaks_below (length lists.now) cond.now ≡ true }
+    ensures number { IfOk result (λ local. IsLocalFor pool.new (built_set pool.old.arities lists.now cond.now) local.level local.number) }
+    ensures grows { GrowsBy (IsPartOfEntry pool.old.arities lists.now cond.now) pool.old pool.new }
+    ensures cause { IfErr result (IsCause pool.new (IsPartOfEntry pool.old.arities lists.now cond.now)) }
+{
     match cond {
-        Cond::True => pool.full(0),
+        Cond::True => Ok(everything(pool)),
         Cond::Is { supply, value } => is_at(pool, lists, *supply, *value),
         Cond::On { supply } => is_on(pool, lists, *supply),
         Cond::Apart { low, high, above } => apart(pool, lists, *low, *high, *above),
@@ -39,79 +54,90 @@ pub fn build(pool: &mut Pool, lists: &[List<Value>], cond: &Cond) -> Result<u32,
     }
 }
 
-/// The number of the whole states at which a supply has a value.
+/// The whole states at which a supply has a value.
 fn is_at(
     pool: &mut Pool,
     lists: &[List<Value>],
     supply: u32,
     value: Value,
-) -> Result<u32, DiagFault>
+) -> Result<Local, DiagFault>
     requires lists { map length lists.now ≡ pool.old.arities }
     requires level { supply < length lists.now }
-    ensures number { IfOk result (IsNumberFor pool.new 0 (built_set pool.old.arities lists.now (Is supply value))) }
+    ensures number { IfOk result (λ local. IsLocalFor pool.new (built_set pool.old.arities lists.now (Is supply value)) local.level local.number) }
     ensures grows { GrowsBy (IsPartOf (length pool.old.arities) 0 (built_set pool.old.arities lists.now (Is supply value))) pool.old pool.new }
     ensures cause { IfErr result (IsCause pool.new (IsPartOf (length pool.old.arities) 0 (built_set pool.old.arities lists.now (Is supply value)))) }
 {
     let values = lists[supply as usize].as_slice();
-    passing(pool, 0, supply, values, ValueTest::Is(value))
+    let number = chosen(pool, supply, values, ValueTest::Is(value))?;
+    let level = supply;
+    Ok(Local { level, number })
 }
 
-/// The number of the whole states at which a supply is on.
-fn is_on(pool: &mut Pool, lists: &[List<Value>], supply: u32) -> Result<u32, DiagFault>
+/// The whole states at which a supply is on.
+fn is_on(pool: &mut Pool, lists: &[List<Value>], supply: u32) -> Result<Local, DiagFault>
     requires lists { map length lists.now ≡ pool.old.arities }
     requires level { supply < length lists.now }
-    ensures number { IfOk result (IsNumberFor pool.new 0 (built_set pool.old.arities lists.now (On supply))) }
+    ensures number { IfOk result (λ local. IsLocalFor pool.new (built_set pool.old.arities lists.now (On supply)) local.level local.number) }
     ensures grows { GrowsBy (IsPartOf (length pool.old.arities) 0 (built_set pool.old.arities lists.now (On supply))) pool.old pool.new }
     ensures cause { IfErr result (IsCause pool.new (IsPartOf (length pool.old.arities) 0 (built_set pool.old.arities lists.now (On supply)))) }
 {
     let values = lists[supply as usize].as_slice();
-    passing(pool, 0, supply, values, ValueTest::On)
+    let number = chosen(pool, supply, values, ValueTest::On)?;
+    let level = supply;
+    Ok(Local { level, number })
 }
 
-/// The number of the whole states at which a condition doesn't hold.
-#[cycle(build)]
-fn negated(pool: &mut Pool, lists: &[List<Value>], part: &Cond) -> Result<u32, DiagFault>
+/// The whole states at which a condition doesn't hold.
+#[cycle(local_of)]
+fn negated(pool: &mut Pool, lists: &[List<Value>], part: &Cond) -> Result<Local, DiagFault>
     requires lists { map length lists.now ≡ pool.old.arities }
     requires levels { speaks_below (length lists.now) part.now ≡ true }
-    ensures number { IfOk result (IsNumberFor pool.new 0 (built_set pool.old.arities lists.now (Not part.now))) }
+    ensures number { IfOk result (λ local. IsLocalFor pool.new (built_set pool.old.arities lists.now (Not part.now)) local.level local.number) }
     ensures grows { GrowsBy (IsPartOfEntry pool.old.arities lists.now (Not part.now)) pool.old pool.new }
     ensures cause { IfErr result (IsCause pool.new (IsPartOfEntry pool.old.arities lists.now (Not part.now))) }
 {
-    let n = build(pool, lists, part)?;
-    pool.complement(0, n)
+    let local = local_of(pool, lists, part)?;
+    let number = pool.complement(local.level, local.number)?;
+    let level = local.level;
+    Ok(Local { level, number })
 }
 
-/// The number of the whole states at which all of the conditions hold.
-#[cycle(build)]
-fn all_of(pool: &mut Pool, lists: &[List<Value>], parts: &[Cond]) -> Result<u32, DiagFault>
+/// The whole states at which all of the conditions hold.
+#[cycle(local_of)]
+fn all_of(pool: &mut Pool, lists: &[List<Value>], parts: &[Cond]) -> Result<Local, DiagFault>
     requires lists { map length lists.now ≡ pool.old.arities }
     requires levels { list_all (speaks_below (length lists.now)) parts.now ≡ true }
-    ensures number { IfOk result (IsNumberFor pool.new 0 (built_set pool.old.arities lists.now (All parts.now))) }
+    ensures number { IfOk result (λ local. IsLocalFor pool.new (built_set pool.old.arities lists.now (All parts.now)) local.level local.number) }
     ensures grows { GrowsBy (IsPartOfEntry pool.old.arities lists.now (All parts.now)) pool.old pool.new }
     ensures cause { IfErr result (IsCause pool.new (IsPartOfEntry pool.old.arities lists.now (All parts.now))) }
 {
-    let mut n = pool.full(0)?;
+    let mut joined = everything(pool);
     for part in parts {
-        let set = build(pool, lists, part)?;
-        n = pool.and(n, set)?;
+        let set = local_of(pool, lists, part)?;
+        let pair = aligned(pool, joined, set)?;
+        let number = pool.and(pair.first, pair.second)?;
+        let level = pair.level;
+        joined = Local { level, number };
     }
-    Ok(n)
+    Ok(joined)
 }
 
-/// The number of the whole states at which one of the conditions holds.
-#[cycle(build)]
-fn any_of(pool: &mut Pool, lists: &[List<Value>], parts: &[Cond]) -> Result<u32, DiagFault>
+/// The whole states at which one of the conditions holds.
+#[cycle(local_of)]
+fn any_of(pool: &mut Pool, lists: &[List<Value>], parts: &[Cond]) -> Result<Local, DiagFault>
     requires lists { map length lists.now ≡ pool.old.arities }
     requires levels { list_all (speaks_below (length lists.now)) parts.now ≡ true }
-    ensures number { IfOk result (IsNumberFor pool.new 0 (built_set pool.old.arities lists.now (Any parts.now))) }
+    ensures number { IfOk result (λ local. IsLocalFor pool.new (built_set pool.old.arities lists.now (Any parts.now)) local.level local.number) }
     ensures grows { GrowsBy (IsPartOfEntry pool.old.arities lists.now (Any parts.now)) pool.old pool.new }
     ensures cause { IfErr result (IsCause pool.new (IsPartOfEntry pool.old.arities lists.now (Any parts.now))) }
 {
-    let _count = pool.nodes();
-    let mut n = 0;
+    let mut joined = nothing(pool);
     for part in parts {
-        let set = build(pool, lists, part)?;
-        n = pool.or(n, set)?;
+        let set = local_of(pool, lists, part)?;
+        let pair = aligned(pool, joined, set)?;
+        let number = pool.or(pair.first, pair.second)?;
+        let level = pair.level;
+        joined = Local { level, number };
     }
-    Ok(n)
+    Ok(joined)
 }

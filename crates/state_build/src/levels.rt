@@ -47,7 +47,12 @@ pub(crate) fn passing(
 }
 
 /// The number of the rests of a level whose first value passes.
-fn chosen(pool: &mut Pool, level: u32, values: &[Value], test: ValueTest) -> Result<u32, DiagFault>
+pub(crate) fn chosen(
+    pool: &mut Pool,
+    level: u32,
+    values: &[Value],
+    test: ValueTest,
+) -> Result<u32, DiagFault>
     requires level_in { level < length pool.old.arities }
     requires arity { length values.now ≡ slice_index pool.old.arities level }
     ensures number { IfOk result (IsNumberFor pool.new level (chosen_set pool.old.arities level values.now test)) }

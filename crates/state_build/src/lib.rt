@@ -3,6 +3,7 @@
 
 mod conditions;
 mod levels;
+mod locals;
 mod pairs;
 #[cfg(test)]
 mod tests;

@@ -195,6 +195,9 @@ fn counts_nodes(rt: HostRuntime) -> Result<(), Fail> {
         (on(1), 3, Ok(3)),
         (apart(1, 2, 100_000), 3, Ok(3)),
         (all(alloc, [])?, 2, Err(DiagFault::Bound { nodes: 2 })),
+        // All values of the third supply, of the second and the third, those at which each is on, the third one's
+        // with any of the second, both on, and these with any of the first.
+        (all(alloc, [on(1), on(2)])?, 7, Ok(7)),
         // What never holds adds nothing.
         (is(0, Value::On(800_000)), 0, Ok(0)),
         (apart(1, 0, 100_000), 0, Ok(0)),

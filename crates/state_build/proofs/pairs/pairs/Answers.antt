@@ -1,16 +1,17 @@
-use Rattle.std.proofs.Common.{◌≡◌, ◌≤◌, ◌<◌, ℕ, Bool, List, length, subst, sym, arith}
-use Rattle.diagram_defs.specs.Diagrams.{IsNumberFor, AreKidsFor, member}
+use Rattle.std.proofs.Common.{◌≡◌, ◌<◌, ℕ, Bool, List, length, subst, sym, arith}
+use Rattle.diagram_defs.specs.Diagrams.{IsNumberFor, AreKidsFor}
 use Rattle.diagram_defs.specs.Sets.{case_set, widened_set}
 use Rattle.diagram_defs.specs.Parts.{GrowsBy, IsPartOf}
-use Rattle.diagram_defs.proofs.PartLemmas.{GrowsBy_step, GrowsBy_wider, passed_cause, refused_wider, same_made}
+use Rattle.diagram_defs.proofs.PartLemmas.{GrowsBy_step, GrowsBy_wider, passed_cause}
 use Rattle.diagram_defs.proofs.Growth.{Grows_trans}
 use Rattle.diagram_defs.proofs.Steps.{AreKids_for, kids_number, kids_parts}
 use Rattle.state_build.specs.Built.{value_of}
 use Rattle.state_build.specs.ValueTests.{is_far, pair_set, apart_set}
-use Rattle.state_build.proofs.Tested.{AreRests_tested, tested_parts, tested_grown, tested_grown_parts}
+use Rattle.state_build.proofs.Tested.{AreRests_tested, tested_parts, tested_widened}
+use Rattle.state_build.proofs.Lowering.{local_made}
 use Rattle.state_build.proofs.Pairing.{level_in, pair_test, pair_whole}
 use Rattle.state_build.proofs.pairs.pairs.Goals as goal
-use Rattle.state_build.proofs.pairs.pairs.Goals.{After-pair_kids, In_ok-kids, After-as_slice, After-case, In_ok-n, After-widen}
+use Rattle.state_build.proofs.pairs.pairs.Goals.{After-pair_kids, In_ok-kids, After-as_slice, After-case, In_ok-number}
 
 first_in : (c : After-pair_kids) → c.args.first < length c.args.pool.now.arities
 first_in c =
@@ -56,45 +57,28 @@ case_parts c l part p =
 case_grown : (c : After-case) → GrowsBy (IsPartOf (length c.args.pool.now.arities) 0 (apart_set c.args.pool.now.arities c.args.lists.now c.args.first c.args.second c.args.side c.args.by)) c.args.pool.now c.case.new.self
 case_grown c = GrowsBy_step _ _ c.args.pool.now c.pair_kids.new.pool c.case.new.self (kids_grown (goal.at-After-case c).After-pair_kids) (case_parts c) c.case.ensures.grows
 
-pub returns-in_err-n-clause-grows : goal.returns-in_err-n-clause-grows
-returns-in_err-n-clause-grows c = case_grown (goal.at.returns-in_err-n-clause-grows c).After-case
+pub returns-in_err-number-clause-grows : goal.returns-in_err-number-clause-grows
+returns-in_err-number-clause-grows c = case_grown (goal.at.returns-in_err-number-clause-grows c).After-case
 
-pub returns-in_err-n-clause-cause : goal.returns-in_err-n-clause-cause
-returns-in_err-n-clause-cause c =
-    passed_cause _ _ c.case.new.self c.from_residual-in_err-n.result c.in_err-n.field-0.0 c.from_residual-in_err-n.ensures.1 (case_parts (goal.at.returns-in_err-n-clause-cause c).After-case) c.in_err-n.ensures.cause
+pub returns-in_err-number-clause-cause : goal.returns-in_err-number-clause-cause
+returns-in_err-number-clause-cause c =
+    passed_cause _ _ c.case.new.self c.from_residual-in_err-number.result c.in_err-number.field-0.0 c.from_residual-in_err-number.ensures.1 (case_parts (goal.at.returns-in_err-number-clause-cause c).After-case) c.in_err-number.ensures.cause
 
-number : (c : In_ok-n) → IsNumberFor c.case.new.self c.args.first (pair_set c.args.pool.now.arities c.args.lists.now c.args.first c.args.second c.args.side c.args.by) c.in_ok-n.n
+number : (c : In_ok-number) → IsNumberFor c.case.new.self c.args.first (pair_set c.args.pool.now.arities c.args.lists.now c.args.first c.args.second c.args.side c.args.by) c.in_ok-number.number
 number c =
-    let at = goal.at-In_ok-n c in
-    kids_number c.args.pool.now c.pair_kids.new.pool c.args.first (pair_set c.args.pool.now.arities c.args.lists.now c.args.first c.args.second c.args.side c.args.by) c.as_slice.result.now c.in_ok-kids.ensures.grows.grows (first_in at.After-pair_kids) (AreRests_tested c.args.pool.now c.args.first (pair_test c.args.lists.now c.args.first c.args.second c.args.side c.args.by)) (kids at.After-as_slice) c.case.new.self c.in_ok-n.n c.in_ok-n.ensures.number
+    let at = goal.at-In_ok-number c in
+    kids_number c.args.pool.now c.pair_kids.new.pool c.args.first (pair_set c.args.pool.now.arities c.args.lists.now c.args.first c.args.second c.args.side c.args.by) c.as_slice.result.now c.in_ok-kids.ensures.grows.grows (first_in at.After-pair_kids) (AreRests_tested c.args.pool.now c.args.first (pair_test c.args.lists.now c.args.first c.args.second c.args.side c.args.by)) (kids at.After-as_slice) c.case.new.self c.in_ok-number.number c.in_ok-number.ensures.number
 
-pub widen-requires-clause-level_in : goal.widen-requires-clause-level_in
-widen-requires-clause-level_in c =
-    let g = Grows_trans _ _ _ c.in_ok-kids.ensures.grows.grows c.in_ok-n.ensures.grows.grows in
-    let inside = first_in (goal.at.widen-requires-clause-level_in c).After-pair_kids in
-    subst (λ (arities : List ℕ). c.args.first ≤ length arities) (sym g.arities) (omega arith)
-
-same : (c : After-widen) (state : List ℕ) → widened_set c.case.new.self 0 c.args.first (member c.case.new.self.nodes c.in_ok-n.n) state ≡ apart_set c.args.pool.now.arities c.args.lists.now c.args.first c.args.second c.args.side c.args.by state
+same : (c : After-pair_kids) (state : List ℕ) → widened_set c.args.pool.now 0 c.args.first (pair_set c.args.pool.now.arities c.args.lists.now c.args.first c.args.second c.args.side c.args.by) state ≡ apart_set c.args.pool.now.arities c.args.lists.now c.args.first c.args.second c.args.side c.args.by state
 same c =
-    let at = goal.at-After-widen c in
-    let inside = first_in at.After-pair_kids in
-    tested_grown c.args.pool.now c.pair_kids.ensures.grows.grows.was 0 c.args.first (omega arith) (omega arith) (pair_test c.args.lists.now c.args.first c.args.second c.args.side c.args.by) (λ state. is_far c.args.side (value_of c.args.lists.now state c.args.first) c.args.by (value_of c.args.lists.now state c.args.second)) (λ state. pair_whole c.args.lists.now c.args.first c.args.second c.args.side c.args.by state c.requires.order) c.case.new.self c.in_ok-n.n (Grows_trans _ _ _ c.in_ok-kids.ensures.grows.grows c.in_ok-n.ensures.grows.grows) (number at.In_ok-n)
-
-parts : (c : After-widen) (l : ℕ) (part : List ℕ → Bool) → IsPartOf (length c.case.new.self.arities) 0 (widened_set c.case.new.self 0 c.args.first (member c.case.new.self.nodes c.in_ok-n.n)) l part → IsPartOf (length c.args.pool.now.arities) 0 (apart_set c.args.pool.now.arities c.args.lists.now c.args.first c.args.second c.args.side c.args.by) l part
-parts c =
-    let at = goal.at-After-widen c in
-    let inside = first_in at.After-pair_kids in
-    tested_grown_parts c.args.pool.now c.pair_kids.ensures.grows.grows.was 0 c.args.first (omega arith) (omega arith) (pair_test c.args.lists.now c.args.first c.args.second c.args.side c.args.by) (λ state. is_far c.args.side (value_of c.args.lists.now state c.args.first) c.args.by (value_of c.args.lists.now state c.args.second)) (λ state. pair_whole c.args.lists.now c.args.first c.args.second c.args.side c.args.by state c.requires.order) c.case.new.self c.in_ok-n.n (Grows_trans _ _ _ c.in_ok-kids.ensures.grows.grows c.in_ok-n.ensures.grows.grows) (number at.In_ok-n)
+    let inside = first_in c in
+    tested_widened c.args.pool.now c.pair_kids.ensures.grows.grows.was 0 c.args.first (omega arith) (omega arith) (pair_test c.args.lists.now c.args.first c.args.second c.args.side c.args.by) (λ state. is_far c.args.side (value_of c.args.lists.now state c.args.first) c.args.by (value_of c.args.lists.now state c.args.second)) (λ state. pair_whole c.args.lists.now c.args.first c.args.second c.args.side c.args.by state c.requires.order)
 
 pub returns-clause-number : goal.returns-clause-number
 returns-clause-number c =
-    same_made c.case.new.self c.widen.new.self 0 _ _ (same (goal.at.returns-clause-number c).After-widen) c.widen.result c.widen.ensures.number
+    let at = goal.at.returns-clause-number c in
+    let inside = first_in at.After-pair_kids in
+    local_made c.args.pool.now c.args.first (omega arith) (pair_set c.args.pool.now.arities c.args.lists.now c.args.first c.args.second c.args.side c.args.by) (apart_set c.args.pool.now.arities c.args.lists.now c.args.first c.args.second c.args.side c.args.by) (same at.After-pair_kids) c.case.new.self c.in_ok-number.number (Grows_trans _ _ _ c.in_ok-kids.ensures.grows.grows c.in_ok-number.ensures.grows.grows) (number at.In_ok-number)
 
 pub returns-clause-grows : goal.returns-clause-grows
-returns-clause-grows c =
-    let at = goal.at.returns-clause-grows c in
-    GrowsBy_step _ _ c.args.pool.now c.case.new.self c.widen.new.self (case_grown at.After-case) (parts at.After-widen) c.widen.ensures.grows
-
-pub returns-clause-cause : goal.returns-clause-cause
-returns-clause-cause c =
-    refused_wider _ _ c.widen.new.self c.widen.result (parts (goal.at.returns-clause-cause c).After-widen) c.widen.ensures.cause
+returns-clause-grows c = case_grown (goal.at.returns-clause-grows c).After-case

@@ -5,9 +5,11 @@ use Rattle.diagram_defs.specs.Diagrams.{Diagram, IsSet, member}
 use Rattle.diagram_defs.specs.Sets.{widened_set}
 use Rattle.diagram_defs.specs.Parts.{IsPartOf}
 
+-- every whole state
 abbrev pub all_states : List ℕ → List ℕ → Bool
 all_states arities state = is_rest arities state
 
+-- no state at all
 abbrev pub no_states : List ℕ → Bool
 no_states state = false
 

@@ -23,7 +23,7 @@ pub enum Answer {
 
 /// The answer to the texts of a library, a netlist and a script, for the module of this name.
 ///
-/// `Memory` comes where memory runs out, and nowhere else.
+/// `Memory`, for want of memory, is the one answer that no clause limits.
 pub fn sign_off(
     alloc: Global,
     library: &[u8],

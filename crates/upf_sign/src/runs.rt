@@ -20,7 +20,7 @@ use std::alloc::Global;
 /// Runs the program on its words, without its own name: fetches the files that they name from the shelf, puts the
 /// report to `out`, or the line that says why there is none to `err`, and answers how it ended.
 ///
-/// The report is put at once, when it is whole. `Memory` comes where memory runs out, and nowhere else.
+/// The report is put at once, when it is whole. `Memory`, for want of memory, is the one answer that no clause limits.
 pub fn run<S: Shelf, K: Sink, E: Sink>(
     alloc: Global,
     words: &[String],

@@ -1,7 +1,8 @@
 # The commands of this repository. They need the Rattle kit's `rt`, and Python 3 for the cases and the benchmarks.
 
 PROGRAM := crates/upfsign/out/upfsign
-DIAGRAMS := crates/diagram_bench/out/diagram_bench
+PROBE := crates/probe/out/probe
+DIAGRAMS := crates/bench/out/bench
 SOURCES := crates.txt $(shell find crates -name '*.rt' -o -name '*.antt')
 EXAMPLE := examples/first-path
 # A job without findings, so that its run ends with exit status 0.
@@ -13,21 +14,27 @@ CLEAN_JOB := flat -lib ../../$(EXAMPLE)/cells.lib -net ../../$(EXAMPLE)/ab.v -up
 demo: $(PROGRAM)
 	@cd $(EXAMPLE) && { ../../$(PROGRAM) flat -lib cells.lib -net ab.v -upf base.upf -top top; test $$? -eq 1; }
 
-# The gate, then the cases on the program.
+# The gate, then the tables of calls and cases on the programs, then whether the page of definitions is in step.
 test:
 	rt ci
 	$(MAKE) cases
+	python3 docs/definitions.py
 
-cases: $(PROGRAM)
+cases: $(PROGRAM) $(PROBE)
+	python3 tests/calls.py $(PROBE)
 	python3 tests/run.py $(PROGRAM)
 
 bench: $(PROGRAM) $(DIAGRAMS)
 	python3 bench/first_form.py $(PROGRAM) --big
 	python3 bench/diagrams.py $(DIAGRAMS)
+	python3 bench/designs.py $(DIAGRAMS)
 
 # Proves the program and all crates below it, and builds it.
 $(PROGRAM): $(SOURCES)
 	cd crates/upfsign && rt run -- $(CLEAN_JOB)
 
 $(DIAGRAMS): $(SOURCES)
-	cd crates/diagram_bench && rt run -- pairs 1
+	cd crates/bench && rt run -- chain-walk 100
+
+$(PROBE): $(SOURCES)
+	cd crates/probe && rt run < stdin

@@ -3,8 +3,6 @@
 #![tactic(auto)]
 
 mod places;
-#[cfg(test)]
-mod tests;
 mod walking;
 
 pub use places::receives;

@@ -11,15 +11,16 @@ use Rattle.pw_defs.specs.declared.intent.Intent.{Intent}
 use Rattle.pw_defs.specs.declared.report.Finding.{Finding}
 use Rattle.pw_defs.specs.declared.values.State.{State}
 use Rattle.pw_defs.specs.declared.values.Value.{Value}
-use Rattle.base_defs.specs.Members.{IsIn}
-use Rattle.base_defs.specs.Orders.{IsRising, state_cmp}
-use Rattle.base_defs.proofs.Rising.{first_least, each_in}
-use Rattle.base_defs.proofs.TotalOrders.{state_cmp_total}
-use Rattle.design_defs.specs.Chains.{Ends}
-use Rattle.intent_defs.specs.Conditions.{holds}
-use Rattle.intent_defs.specs.States.{value_in}
-use Rattle.signoff_defs.specs.Watches.{watched}
-use Rattle.signoff_defs.specs.Findings.{IsWitness, IsFindingOf, AreFindings, none, found, quiet}
+use Rattle.list_defs.specs.Members.{IsIn}
+use Rattle.list_defs.specs.Orders.{IsRising}
+use Rattle.pw_defs.specs.Values.{state_cmp}
+use Rattle.list_defs.proofs.Rising.{first_least, each_in}
+use Rattle.supply_defs.proofs.TotalOrders.{state_cmp_total}
+use Rattle.checks.specs.LineChains.{Ends}
+use Rattle.supply_defs.specs.Conditions.{holds}
+use Rattle.supply_defs.specs.States.{value_in}
+use Rattle.checks.specs.LineWatches.{watched}
+use Rattle.checks.specs.LineFindings.{IsWitness, IsFindingOf, AreFindings, none, found, quiet}
 use Rattle.checks.specs.Judging.{shown_by, missing_on, findings_of}
 
 abbrev pub values : List State → List (List Value)

@@ -1,6 +1,6 @@
 -- The last bit of a walk by its place.
 use Rattle.std.proofs.Common.{◌≡◌, ℕ, ◌-◌, List, [], ◌∷◌, length, slice_index_or, refl, ap, ◌∙◌, arith}
-use Rattle.design_defs.specs.Chains.{last_bit}
+use Rattle.checks.specs.LineChains.{last_bit}
 
 last_at : (n : ℕ) (ns : List ℕ) → slice_index_or (n ∷ ns) (length ns) 0 ≡ last_bit (n ∷ ns)
 last_at n [] = refl

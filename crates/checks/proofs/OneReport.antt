@@ -24,15 +24,16 @@ use Rattle.pw_defs.specs.declared.report.Report.{Report}
 use Rattle.pw_defs.specs.declared.values.State.{State}
 use Rattle.pw_defs.specs.declared.values.Value.{Value}
 use Rattle.pw_defs.specs.declared.values.Value.TheVariants.{Off, On}
-use Rattle.base_defs.specs.Members.{IsIn}
-use Rattle.base_defs.specs.Orders.{state_cmp, IsLeast, IsPutInOrder}
-use Rattle.base_defs.proofs.TotalOrders.{state_cmp_total}
-use Rattle.design_defs.specs.Chains.{Ends, chains}
+use Rattle.list_defs.specs.Members.{IsIn}
+use Rattle.list_defs.specs.Orders.{IsLeast, IsPutInOrder}
+use Rattle.pw_defs.specs.Values.{state_cmp}
+use Rattle.supply_defs.proofs.TotalOrders.{state_cmp_total}
+use Rattle.checks.specs.LineChains.{Ends, chains}
 use Rattle.design_defs.specs.Walks.{IsWalk, AreWalks, starts}
-use Rattle.intent_defs.specs.Conditions.{holds}
-use Rattle.intent_defs.specs.States.{value_in}
-use Rattle.signoff_defs.specs.Watches.{watched}
-use Rattle.signoff_defs.specs.Findings.{Shows, IsFindingOf, IsQuiet, AreFindings, none, found, quiet, kind_number, finding_cmp, legal_of, IsReport}
+use Rattle.supply_defs.specs.Conditions.{holds}
+use Rattle.supply_defs.specs.States.{value_in}
+use Rattle.checks.specs.LineWatches.{watched}
+use Rattle.checks.specs.LineFindings.{Shows, IsFindingOf, IsQuiet, AreFindings, none, found, quiet, kind_number, finding_cmp, legal_of, IsReport}
 use Rattle.signoff_defs.proofs.InOrder.{put_once}
 use Rattle.chains.specs.OneWalk.{HasOneWalk}
 

@@ -19,16 +19,17 @@ use Rattle.pw_defs.specs.declared.report.Finding.{Finding}
 use Rattle.pw_defs.specs.declared.report.Report.{Report}
 use Rattle.pw_defs.specs.declared.values.State.{State}
 use Rattle.pw_defs.specs.declared.values.Value.{Value}
-use Rattle.base_defs.specs.Members.{IsIn}
-use Rattle.base_defs.specs.Orders.{IsRising, IsPutInOrder, state_cmp}
-use Rattle.base_defs.proofs.Rising.{each_in, found_in}
-use Rattle.design_defs.specs.Chains.{Ends, chains}
+use Rattle.list_defs.specs.Members.{IsIn}
+use Rattle.list_defs.specs.Orders.{IsRising, IsPutInOrder}
+use Rattle.pw_defs.specs.Values.{state_cmp}
+use Rattle.list_defs.proofs.Rising.{each_in, found_in}
+use Rattle.checks.specs.LineChains.{Ends, chains}
 use Rattle.design_defs.specs.Walks.{AreWalks}
-use Rattle.intent_defs.specs.Conditions.{holds}
-use Rattle.intent_defs.specs.States.{IsLegal, legal_states, state_count, value_in}
-use Rattle.signoff_defs.specs.Findings.{AreFindings, IsReport, lists_of, conds_of, legal_of, visible_of, finding_cmp, top_name}
+use Rattle.supply_defs.specs.Conditions.{holds}
+use Rattle.supply_defs.specs.States.{IsLegal, legal_states, state_count, value_in}
+use Rattle.checks.specs.LineFindings.{AreFindings, IsReport, lists_of, conds_of, legal_of, visible_of, finding_cmp, top_name}
 use Rattle.signoff_defs.specs.ReportText.{HasWholeWitness}
-use Rattle.signoff_defs.specs.Watches.{watched}
+use Rattle.checks.specs.LineWatches.{watched}
 use Rattle.checks.specs.declared.chain_ends.ChainEnds.{ChainEnds}
 use Rattle.checks.specs.Checked.{AreLegal}
 use Rattle.checks.specs.Ends.{ends_of}

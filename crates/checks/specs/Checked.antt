@@ -7,9 +7,10 @@ use Rattle.pw_defs.specs.declared.faults.ListFault.{ListFault}
 use Rattle.pw_defs.specs.declared.faults.ListFault.TheVariants.{Bound as ListBound, Memory as ListMemory}
 use Rattle.pw_defs.specs.declared.intent.Intent.{Intent}
 use Rattle.pw_defs.specs.declared.values.State.{State}
-use Rattle.base_defs.specs.Orders.{IsRising, state_cmp}
-use Rattle.intent_defs.specs.States.{state_count}
-use Rattle.signoff_defs.specs.Findings.{lists_of, legal_of}
+use Rattle.list_defs.specs.Orders.{IsRising}
+use Rattle.pw_defs.specs.Values.{state_cmp}
+use Rattle.supply_defs.specs.States.{state_count}
+use Rattle.checks.specs.LineFindings.{lists_of, legal_of}
 
 -- there are more states than are looked at
 abbrev pub PassesBound : Intent → Type 0

@@ -1,5 +1,5 @@
 -- The ends of a chain as the code has them.
-use Rattle.design_defs.specs.Chains.{Ends}
+use Rattle.checks.specs.LineChains.{Ends}
 use Rattle.checks.specs.declared.chain_ends.ChainEnds.{ChainEnds}
 
 abbrev pub ends_of : ChainEnds → Ends

@@ -6,11 +6,11 @@ use Rattle.pw_defs.specs.declared.design.Design.{Design}
 use Rattle.pw_defs.specs.declared.intent.Intent.{Intent}
 use Rattle.pw_defs.specs.declared.report.Finding.{Finding}
 use Rattle.pw_defs.specs.declared.values.State.{State}
-use Rattle.design_defs.specs.Chains.{Ends}
-use Rattle.intent_defs.specs.Conditions.{holds}
-use Rattle.intent_defs.specs.States.{value_in}
-use Rattle.signoff_defs.specs.Watches.{watched}
-use Rattle.signoff_defs.specs.Findings.{bit_name}
+use Rattle.checks.specs.LineChains.{Ends}
+use Rattle.supply_defs.specs.Conditions.{holds}
+use Rattle.supply_defs.specs.States.{value_in}
+use Rattle.checks.specs.LineWatches.{watched}
+use Rattle.checks.specs.LineFindings.{bit_name}
 
 -- the first of the states that shows what is watched on a chain
 abbrev pub shown_by : Intent → List State → Ends → Option State

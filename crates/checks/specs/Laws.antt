@@ -3,7 +3,7 @@ use Rattle.std.specs.Prelude.{◌≡◌}
 use Rattle.pw_defs.specs.declared.design.Design.{Design}
 use Rattle.pw_defs.specs.declared.intent.Intent.{Intent}
 use Rattle.pw_defs.specs.declared.report.Report.{Report}
-use Rattle.signoff_defs.specs.Findings.{IsReport}
+use Rattle.checks.specs.LineFindings.{IsReport}
 
 -- two reports on a design with its intent are the same
 abbrev pub HasOneReport : Type 0

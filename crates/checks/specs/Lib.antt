@@ -1,3 +1,6 @@
+pub mod LineChains
+pub mod LineWatches
+pub mod LineFindings
 pub mod Ends
 pub mod Judging
 pub mod Seen

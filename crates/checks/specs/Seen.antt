@@ -6,10 +6,10 @@ use Rattle.std.specs.declared.hash.BuildHasherDefault.{BuildHasherDefault}
 use Rattle.std.specs.HashMap.{HashMap, get}
 use Rattle.pw_defs.specs.declared.intent.Intent.{Intent}
 use Rattle.pw_defs.specs.declared.values.State.{State}
-use Rattle.design_defs.specs.Chains.{Ends}
-use Rattle.intent_defs.specs.Conditions.{holds}
-use Rattle.intent_defs.specs.States.{value_in}
-use Rattle.signoff_defs.specs.Watches.{set_of, isolation_missing}
+use Rattle.checks.specs.LineChains.{Ends}
+use Rattle.supply_defs.specs.Conditions.{holds}
+use Rattle.supply_defs.specs.States.{value_in}
+use Rattle.checks.specs.LineWatches.{set_of, isolation_missing}
 use Rattle.checks.specs.declared.judge.Sides.{Sides}
 use Rattle.checks.specs.contracts.judge.SidesPartialEq.TheImpl.{eq-value}
 

@@ -1,6 +1,6 @@
 //! The chains among the walks of a design.
 ghost use Rattle.std.specs.Prelude.{◌≡◌, map, option_map, IfOk};
-ghost use Rattle.design_defs.specs.Chains.{first_bit, last_bit, chain_of, chains};
+ghost use Rattle.checks.specs.LineChains.{first_bit, last_bit, chain_of, chains};
 ghost use Rattle.checks.specs.Ends.{ends_of};
 
 use chains::receives;

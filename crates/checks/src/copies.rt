@@ -1,43 +1,9 @@
 //! The values and conditions of an intent, each kind in a row.
 ghost use Rattle.std.specs.Prelude.{◌≡◌, IfOk, map};
-ghost use Rattle.signoff_defs.specs.Findings.{lists_of, conds_of, visible_of};
+ghost use Rattle.checks.specs.LineFindings.{lists_of, conds_of, visible_of};
 
-use pw_defs::{Boxed, Cond, Intent, List, Memory, Name, Value};
+use pw_defs::{Cond, Intent, List, Memory, Name, Value, copy_cond};
 use std::alloc::Global;
-
-/// A condition like another one.
-#[cycle(copy)]
-fn copy(alloc: Global, cond: &Cond) -> Result<Cond, Memory>
-    ensures { IfOk result (λ same. same ≡ cond.now) }
-{
-    match cond {
-        Cond::True => Ok(Cond::True),
-        Cond::Is { supply, value } => Ok(Cond::Is {
-            supply: *supply,
-            value: *value,
-        }),
-        Cond::On { supply } => Ok(Cond::On { supply: *supply }),
-        Cond::Apart { low, high, above } => Ok(Cond::Apart {
-            low: *low,
-            high: *high,
-            above: *above,
-        }),
-        Cond::Not(part) => Ok(Cond::Not(Boxed::new(alloc, copy(alloc, part.get())?)?)),
-        Cond::All(parts) => Ok(Cond::All(copy_all(alloc, parts.as_slice())?)),
-        Cond::Any(parts) => Ok(Cond::Any(copy_all(alloc, parts.as_slice())?)),
-    }
-}
-
-#[cycle(copy)]
-fn copy_all(alloc: Global, conds: &[Cond]) -> Result<List<Cond>, Memory>
-    ensures { IfOk result (λ same. same ≡ conds.now) }
-{
-    let mut all = List::new(alloc);
-    for cond in conds {
-        all.push(copy(alloc, cond)?)?;
-    }
-    Ok(all)
-}
 
 /// The conditions that legal states meet.
 pub(crate) fn conds_of(alloc: Global, intent: &Intent) -> Result<Vec<Cond>, Memory>
@@ -45,7 +11,7 @@ pub(crate) fn conds_of(alloc: Global, intent: &Intent) -> Result<Vec<Cond>, Memo
 {
     let mut conds = Vec::new(alloc);
     for stated in intent.conds.as_slice() {
-        conds.push(copy(alloc, &stated.cond)?)?;
+        conds.push(copy_cond(alloc, &stated.cond)?)?;
     }
     Ok(conds)
 }

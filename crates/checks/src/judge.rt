@@ -1,10 +1,11 @@
 //! Whether a legal state shows what is watched on a chain, and the finding that it makes.
 ghost use Rattle.std.specs.Prelude.{◌≡◌, map, option_and_then, slice_get, IfOk};
 ghost use Rattle.std.specs.Option.{option_copied};
-ghost use Rattle.intent_defs.specs.Conditions.{is_on, holds};
-ghost use Rattle.intent_defs.specs.States.{value_in};
-ghost use Rattle.signoff_defs.specs.Watches.{set_on, isolation_missing, set_of};
-ghost use Rattle.signoff_defs.specs.Findings.{bit_name};
+ghost use Rattle.supply_defs.specs.Conditions.{holds};
+ghost use Rattle.pw_defs.specs.Values.{is_on};
+ghost use Rattle.supply_defs.specs.States.{value_in};
+ghost use Rattle.checks.specs.LineWatches.{set_on, isolation_missing, set_of};
+ghost use Rattle.checks.specs.LineFindings.{bit_name};
 ghost use Rattle.checks.specs.Ends.{ends_of};
 ghost use Rattle.checks.specs.Judging.{shown_by, missing_on, findings_of};
 ghost use Rattle.checks.specs.Seen.{sides_of, IsFirstShown, AreFirstShown};
@@ -32,7 +33,7 @@ fn is_on(state: &[Value], supply: u32) -> bool
 }
 
 /// Whether a set is on: its power, and its ground if it has one.
-#[tactic(auto, using(intent_defs::proofs::Meaning::holding))]
+#[tactic(auto, using(supply_defs::proofs::Meaning::holding))]
 fn set_is_on(state: &[Value], set: SupplySet) -> bool
     ensures { result ≡ holds (value_in state.now) (set_on set) }
 {
@@ -43,7 +44,7 @@ fn set_is_on(state: &[Value], set: SupplySet) -> bool
 }
 
 /// Whether isolation is missing in a state between these sets.
-#[tactic(auto, using(intent_defs::proofs::Meaning::holding))]
+#[tactic(auto, using(supply_defs::proofs::Meaning::holding))]
 fn shows(state: &[Value], sides: Sides) -> bool
     ensures { result ≡ holds (value_in state.now) (isolation_missing sides.driver sides.receiver) }
 {

@@ -4,11 +4,11 @@
 ghost use Rattle.std.specs.Prelude.{◌≡◌, ◌≢◌, ◌≤◌, [], true, length, All, IfOk, IfErr};
 ghost use Rattle.std.specs.List.{AllByRecursion};
 ghost use Rattle.pw_defs.specs.Values.{value_cmp};
-ghost use Rattle.base_defs.specs.Orders.{IsRising};
+ghost use Rattle.list_defs.specs.Orders.{IsRising};
 ghost use Rattle.design_defs.specs.Walks.{WalksEnd};
-ghost use Rattle.intent_defs.specs.Conditions.{speaks_below};
-ghost use Rattle.intent_defs.specs.States.{state_count};
-ghost use Rattle.signoff_defs.specs.Findings.{IsReport, lists_of, conds_of, legal_of};
+ghost use Rattle.supply_defs.specs.Conditions.{speaks_below};
+ghost use Rattle.supply_defs.specs.States.{state_count};
+ghost use Rattle.checks.specs.LineFindings.{IsReport, lists_of, conds_of, legal_of};
 ghost use Rattle.signoff_defs.specs.ReportText.{HasWholeWitness};
 ghost use Rattle.checks.specs.Checked.{AreLegal, ListCause, CheckCause};
 
@@ -17,8 +17,6 @@ mod copies;
 mod judge;
 mod laws;
 mod report;
-#[cfg(test)]
-mod tests;
 
 pub use laws::one_report;
 use pw_defs::{CheckFault, Design, Intent, List, ListFault, Memory, Report, State};

@@ -1,12 +1,18 @@
 -- The ports and pins of instances, and at which of them a walk begins.
-use Rattle.std.specs.Prelude.{ℕ, ◌==◌, Bool, true, false, not, ◌&&◌, ◌||◌, List, Option, Some, None, option_map, option_and_then, slice_get}
+use Rattle.std.specs.Prelude.{◌≡◌, ℕ, ◌<◌, ◌==◌, Bool, true, false, not, ◌&&◌, ◌||◌, List, Option, Some, None, map, option_map, option_and_then, slice_get}
 use Rattle.pw_defs.specs.declared.cells.Dir.{Dir}
 use Rattle.pw_defs.specs.declared.cells.Dir.TheVariants.{Input, Output}
 use Rattle.pw_defs.specs.declared.cells.Cell.{Cell}
+use Rattle.pw_defs.specs.declared.cells.Cells.{Cells}
+use Rattle.pw_defs.specs.declared.cells.Pin.{Pin}
 use Rattle.pw_defs.specs.declared.design.Body.{Body}
 use Rattle.pw_defs.specs.declared.design.Body.TheVariants.{Module, Cell as CellBody, Model}
 use Rattle.pw_defs.specs.declared.design.Design.{Design}
 use Rattle.pw_defs.specs.declared.design.PortBit.{PortBit}
+use Rattle.pw_defs.specs.declared.model.Model.{Model as ModelOf}
+use Rattle.pw_defs.specs.declared.netlist.Module.{Module as ModuleOf}
+use Rattle.pw_defs.specs.declared.netlist.Port.{Port}
+use Rattle.design_defs.specs.Ranges.{width}
 
 abbrev pub is_input : Option Dir → Bool
 is_input None = false
@@ -65,3 +71,27 @@ receives d p = receives_at d p (body_of d p.inst)
 -- whether a walk begins at a port bit
 abbrev pub begins : Design → PortBit → Bool
 begins d p = begins_at d p (body_of d p.inst)
+
+-- a pin as a port of one bit
+abbrev pub port_of_pin : Pin → Port
+port_of_pin pin = record { name = pin.name; dir = pin.dir; range = None }
+
+-- the ports of a module or a model, or the pins of a cell
+abbrev pub ports_among : List ModuleOf → Cells → List ModelOf → Body → Option (List Port)
+ports_among modules cells models (Module m) = option_map (λ x. x.ports) (slice_get modules m)
+ports_among modules cells models (CellBody c) = option_map (λ x. map port_of_pin x.pins) (slice_get cells.cells c)
+ports_among modules cells models (Model m) = option_map (λ x. x.ports) (slice_get models m)
+
+-- the ports of an instance
+abbrev pub ports_of : Design → ℕ → Option (List Port)
+ports_of d inst = option_and_then (ports_among d.modules d.cells d.models) (body_of d inst)
+
+-- a port of an instance, by its number
+abbrev pub port_at : Design → ℕ → ℕ → Option Port
+port_at d inst port = option_and_then (λ ports. slice_get ports port) (ports_of d inst)
+
+-- a port bit that there is: of a port of the instance, at a place within its width
+pub record IsPortBit (d : Design) (p : PortBit) : Type 0 where
+  pub of_port : Port
+  pub is_port : port_at d p.inst p.port ≡ Some of_port
+  pub within : p.place < width of_port.range

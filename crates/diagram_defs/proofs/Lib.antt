@@ -1,6 +1,13 @@
 pub mod Canonical
 pub mod Growth
+pub mod Guards
+pub mod Listed
+pub mod LocalSets
 pub mod Meaning
 pub mod PartLemmas
+pub mod Quantifying
+pub mod StateOrder
 pub mod Steps
-pub mod Listed
+pub mod Widened
+pub mod WorkedSets
+pub mod Yielding

@@ -72,3 +72,29 @@ pub level_within : (d : Diagram) (pool : IsPool d) (level n : ℕ) → IsSet d l
 level_within d pool level n (empty z) ne = absurd (ne z)
 level_within d pool level n (whole w at) ne = omega arith
 level_within d pool level n (node at shape is below there same) ne = let good = (pool.nodes.each at shape there).level_in in omega arith
+
+-- a number above the last level isn't 1
+pub inner_number : (d : Diagram) (level n : ℕ) → level < length d.arities → IsSet d level n → n ≢ 1
+inner_number d level n inside (empty z) one = omega arith
+inner_number d level n inside (whole w at) one = omega arith
+inner_number d level n inside (node at shape is below there same) one = omega arith
+
+-- behind the last level only 1 isn't empty
+pub last_number : (d : Diagram) (pool : IsPool d) (level n : ℕ) → level ≡ length d.arities → IsSet d level n → n ≢ 0 → n ≡ 1
+last_number d pool level n at (empty z) ne = absurd (ne z)
+last_number d pool level n at (whole w at') ne = w
+last_number d pool level n at (node place shape is below there same) ne =
+    let good = (pool.nodes.each place shape there).level_in in absurd (omega arith)
+
+-- a set that isn't empty has a rest behind some value
+pub some_kid : (d : Diagram) (pool : IsPool d) (level n : ℕ) → level < length d.arities → IsSet d level n → n ≢ 0 → ((v : ℕ) → v < get_or d.arities level 0 → kid d.nodes n v ≡ 0) → ⊥
+some_kid d pool level n inside (empty z) ne none = ne z
+some_kid d pool level n inside (whole w at) ne none = omega arith
+some_kid d pool level n inside (node at shape is below there same) ne none =
+    let some = pool.sharp.nonempty at shape there in
+    let good = (pool.nodes.each at shape there).arity in
+    let wide : length shape.kids ≡ get_or d.arities level 0 = good ∙ ap (λ (l : ℕ). get_or d.arities l 0) same in
+    elim (cases_lt some.0 (length shape.kids)) [
+      | inl low ↦ some.1 (sym (kid-node d.nodes n at shape some.0 is there) ∙ none some.0 (omega arith))
+      | inr past ↦ some.1 (get_or_past shape.kids some.0 0 past)
+    ]

@@ -3,8 +3,8 @@ use Rattle.std.proofs.Common.{◌≡◌, ◌≢◌, ℕ, zero, suc, ◌+◌, ◌
 use Rattle.std.specs.List.{slice_get}
 use Rattle.std.proofs.lemmas.Bool.{cases_lt}
 use Rattle.std.proofs.lemmas.Option.{slice_get_within}
-use Rattle.pw_defs.specs.declared.faults.DiagFault.{DiagFault}
-use Rattle.pw_defs.specs.declared.faults.DiagFault.TheVariants.{Bound, Memory}
+use Rattle.plain_lists.specs.declared.faults.DiagFault.{DiagFault}
+use Rattle.plain_lists.specs.declared.faults.DiagFault.TheVariants.{Bound, Memory}
 use Rattle.diagram_defs.specs.Diagrams.{Shape, Diagram, member, IsKid, AreNodes, IsPool, IsSet, IsNumberFor, Grows}
 use Rattle.diagram_defs.specs.Diagrams.IsKid.{node}
 use Rattle.diagram_defs.specs.Parts.{IsPartOf, AddsParts, GrowsBy, LacksPart}

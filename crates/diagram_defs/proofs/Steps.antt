@@ -123,3 +123,6 @@ module _ (old mid : Diagram) (level : ℕ) (set : List ℕ → Bool) (kids : Lis
   pub kids_parts : (l : ℕ) (part : List ℕ → Bool) → IsPartOf (length mid.arities) level (case_set mid.nodes kids) l part → IsPartOf (length old.arities) level set l part
   kids_parts l part p =
       case_parts level set mid (length old.arities) kids within (ap length g.arities) (AreRests_grows old mid level set g rests) all l part p
+
+  pub kids_same : (rest : List ℕ) → case_set mid.nodes kids rest ≡ set rest
+  kids_same rest = case_matches mid level set kids within (AreRests_grows old mid level set g rests) all rest

@@ -1,5 +1,9 @@
 pub mod Answers
 pub mod Diagrams
+pub mod Locals
 pub mod Parts
+pub mod Quantified
 pub mod Rests
 pub mod Sets
+pub mod States
+pub mod Worked

@@ -25,3 +25,9 @@ pub record LacksPart (d : Diagram) (Allowed : ℕ → (List ℕ → Bool) → Ty
   pub part : List ℕ → Bool
   pub allowed : Allowed level part
   pub absent : (n : ℕ) → IsNumberFor d level part n → ⊥
+
+-- a part of one of some sets of whole states
+pub record IsPartOfSome (levels : ℕ) (IsListed : (List ℕ → Bool) → Type 0) (level : ℕ) (part : List ℕ → Bool) : Type 0 where
+  pub entry : List ℕ → Bool
+  pub listed : IsListed entry
+  pub of : IsPartOf levels 0 entry level part

@@ -5,7 +5,7 @@ use Rattle.std.proofs.lemmas.List.Folds.{list_any-append}
 use Rattle.std.specs.Prelude.{IsSomeAnd}
 use Rattle.std.specs.List.{list_any, list_all, filter_map}
 use Rattle.line_forms.specs.declared.netlist_lines.ModuleLines.{ModuleLines}
-use Rattle.base_defs.specs.Members.{all_differ, same_name}
+use Rattle.list_defs.specs.Members.{all_differ, same_name}
 use Rattle.form_design.specs.Names.{port_names, nets, names, inst_names, wire_of}
 
 front : (a b c d : Bool) → (not (a || b) && c) ≡ true → (c ≡ true → d ≡ true) → (not a && d) ≡ true

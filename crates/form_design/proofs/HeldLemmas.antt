@@ -10,7 +10,7 @@ use Rattle.line_forms.specs.declared.netlist_lines.ConnWords.{ConnWords}
 use Rattle.line_forms.specs.declared.netlist_lines.InstLine.{InstLine}
 use Rattle.line_forms.specs.declared.netlist_lines.ModuleLines.{ModuleLines}
 use Rattle.design_defs.specs.Names.{joined}
-use Rattle.base_defs.specs.Members.{same_name, place_of}
+use Rattle.list_defs.specs.Members.{same_name, place_of}
 use Rattle.form_design.specs.declared.hierarchy.Held.{Held}
 use Rattle.form_design.specs.Names.{Table, table_of, wire_of, port_names, nets, body_named, list_at, ports_of, bits_of}
 use Rattle.form_design.specs.Hierarchy.{join_of, held_under, lines_at, held_by, top_held, children, held_below, helds}

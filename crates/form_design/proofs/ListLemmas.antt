@@ -3,7 +3,7 @@ use Rattle.std.proofs.Common.{◌≡◌, ℕ, zero, suc, ◌+◌, ◌<◌, Bool,
 use Rattle.std.specs.Prelude.{IfSome, option_map, option_and_then, if◌then◌else◌}
 use Rattle.std.specs.List.{AllByRecursion, filter_map, flat_map, enumerate_from, cons_option}
 use Rattle.std.proofs.lemmas.Option.{none-some, same_Some}
-use Rattle.base_defs.specs.Members.{place_of}
+use Rattle.list_defs.specs.Members.{place_of}
 use Rattle.form_design.specs.Hierarchy.{both}
 
 -- OPTIONS

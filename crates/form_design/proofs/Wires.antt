@@ -8,7 +8,7 @@ use Rattle.std.proofs.lemmas.Option.{slice_get_within, get_or_from_slice_get}
 use Rattle.std.specs.List.{list_any, list_all, enumerate_from, find}
 use Rattle.pw_defs.specs.declared.design.Bit.{Bit}
 use Rattle.pw_defs.specs.declared.design.Feeder.TheVariants.{Bit as BitFeeder}
-use Rattle.base_defs.specs.Members.{all_differ}
+use Rattle.list_defs.specs.Members.{all_differ}
 use Rattle.form_design.specs.Hierarchy.{fed, linked_bits, linked}
 use Rattle.form_design.specs.Fits.{is_free, feeds_once}
 

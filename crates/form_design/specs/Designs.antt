@@ -12,7 +12,7 @@ use Rattle.line_forms.specs.declared.library_lines.PinLine.{PinLine}
 use Rattle.line_forms.specs.declared.library_lines.Role.{Role}
 use Rattle.line_forms.specs.declared.library_lines.Role.TheVariants.{IsolationData, IsolationEnable, ShifterData, ShifterEnable}
 use Rattle.line_forms.specs.declared.netlist_lines.ModuleLines.{ModuleLines}
-use Rattle.base_defs.specs.Members.{place_of}
+use Rattle.list_defs.specs.Members.{place_of}
 use Rattle.design_defs.specs.Ports.{is_input}
 use Rattle.form_design.specs.declared.hierarchy.Held.{Held}
 use Rattle.form_design.specs.Names.{table_of}

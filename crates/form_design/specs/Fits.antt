@@ -15,7 +15,7 @@ use Rattle.line_forms.specs.declared.library_lines.Role.TheVariants.{IsolationDa
 use Rattle.line_forms.specs.declared.netlist_lines.ConnWords.{ConnWords}
 use Rattle.line_forms.specs.declared.netlist_lines.InstLine.{InstLine}
 use Rattle.line_forms.specs.declared.netlist_lines.ModuleLines.{ModuleLines}
-use Rattle.base_defs.specs.Members.{same_name, place_of, all_differ}
+use Rattle.list_defs.specs.Members.{same_name, place_of, all_differ}
 use Rattle.design_defs.specs.Ports.{is_output}
 use Rattle.form_design.specs.declared.hierarchy.Held.{Held}
 use Rattle.form_design.specs.Names.{Table, table_of, insts, names, body_named, list_at, ports_of}

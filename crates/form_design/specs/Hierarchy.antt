@@ -13,7 +13,7 @@ use Rattle.line_forms.specs.declared.netlist_lines.ModuleLines.{ModuleLines}
 use Rattle.design_defs.specs.Names.{joined}
 use Rattle.design_defs.specs.Ports.{is_input, is_output}
 use Rattle.form_design.specs.declared.hierarchy.Held.{Held}
-use Rattle.base_defs.specs.Members.{same_name, place_of}
+use Rattle.list_defs.specs.Members.{same_name, place_of}
 use Rattle.form_design.specs.Names.{Table, insts, body_named, list_at, ports_of, dirs_of, bits_of}
 
 -- both of two

@@ -9,7 +9,7 @@ use Rattle.line_forms.specs.declared.netlist_lines.InstLine.{InstLine}
 use Rattle.line_forms.specs.declared.netlist_lines.ItemLine.{ItemLine}
 use Rattle.line_forms.specs.declared.netlist_lines.ItemLine.TheVariants.{Wire, Inst}
 use Rattle.line_forms.specs.declared.netlist_lines.ModuleLines.{ModuleLines}
-use Rattle.base_defs.specs.Members.{same_name, place_of}
+use Rattle.list_defs.specs.Members.{same_name, place_of}
 
 abbrev pub wire_of : ItemLine → Option (List ℕ)
 wire_of (Wire name) = Some name

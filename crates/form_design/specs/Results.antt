@@ -5,7 +5,7 @@ use Rattle.pw_defs.specs.declared.design.Bit.{Bit}
 use Rattle.form_design.specs.declared.hierarchy.Held.{Held}
 use Rattle.line_forms.specs.declared.library_lines.CellLines.{CellLines}
 use Rattle.line_forms.specs.declared.netlist_lines.ModuleLines.{ModuleLines}
-use Rattle.base_defs.specs.Members.{same_name, place_of}
+use Rattle.list_defs.specs.Members.{same_name, place_of}
 use Rattle.design_defs.specs.Walks.{WalksEnd}
 use Rattle.form_design.specs.Names.{Table, table_of}
 use Rattle.form_design.specs.Hierarchy.{lines_at, helds, bits}

@@ -1,6 +1,6 @@
 //! Cells and modules as the design has them.
 ghost use Rattle.std.specs.Prelude.{◌≡◌, ◌<◌, None, map, length, position, IfOk, IfSome};
-ghost use Rattle.base_defs.specs.Members.{place_of};
+ghost use Rattle.list_defs.specs.Members.{place_of};
 ghost use Rattle.form_design.specs.Fits.{is_data_pin};
 ghost use Rattle.form_design.specs.Designs.{is_enable, is_enable_pin, only_data, first_enable, is_isolation, is_shifter, cell_of, module_of, instance_of};
 

@@ -1,7 +1,7 @@
 //! The design that a library and a netlist of the first form mean.
 ghost use Rattle.std.specs.Prelude.{◌≡◌, ◌≤◌, true, false, map, length, sum_by, IfOk, IsSomeAnd, MatchOption};
 ghost use Rattle.std.specs.List.{list_all};
-ghost use Rattle.base_defs.specs.Members.{all_differ, same_name};
+ghost use Rattle.list_defs.specs.Members.{all_differ, same_name};
 ghost use Rattle.form_design.specs.Names.{table_of, names as names_of};
 ghost use Rattle.form_design.specs.Hierarchy.{size, starts_from, lines_at, helds, bits};
 ghost use Rattle.form_design.specs.Fits.{has_size, has_one_feeder, hierarchy_fits, top_fits_by, top_fits, design_fits};

@@ -1,7 +1,7 @@
 //! The index of the names of all files, and whether these differ.
 ghost use Rattle.std.specs.Prelude.{◌≡◌, true, false, map, IfOk, MatchOption};
 ghost use Rattle.std.specs.List.{list_all};
-ghost use Rattle.base_defs.specs.Members.{all_differ, same_name};
+ghost use Rattle.list_defs.specs.Members.{all_differ, same_name};
 ghost use Rattle.form_design.specs.Names.{pin_names, pin_dirs, port_names, port_dirs, nets, names, table_of};
 ghost use Rattle.form_design.specs.Fits.{is_apart, names_differ};
 

@@ -12,6 +12,3 @@ mod wiring;
 mod words;
 
 pub use design::{FormDesign, design_of};
-
-#[cfg(test)]
-mod tests;

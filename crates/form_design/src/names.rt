@@ -1,6 +1,6 @@
 //! The names of the files, to find things by.
 ghost use Rattle.std.specs.Prelude.{◌≡◌, [], length, slice_get, MatchOption};
-ghost use Rattle.base_defs.specs.Members.{place_of, same_name};
+ghost use Rattle.list_defs.specs.Members.{place_of, same_name};
 ghost use Rattle.form_design.specs.Names.{Table, body_named, ports_of, dirs_of, bits_of, list_at};
 
 use name_index::NameIndex;

@@ -7,8 +7,8 @@ use Rattle.pw_defs.specs.declared.intent.SupplySet.{SupplySet}
 use Rattle.pw_defs.specs.declared.supplies.Supply.{Supply}
 use Rattle.pw_defs.specs.declared.values.Value.{Value}
 use Rattle.line_forms.specs.declared.script_lines.CommandLine.{CommandLine}
-use Rattle.base_defs.specs.Members.{place_of, same_name}
-use Rattle.base_defs.proofs.NameLemmas.{place_of-map}
+use Rattle.list_defs.specs.Members.{place_of, same_name}
+use Rattle.list_defs.proofs.NameLemmas.{place_of-map}
 use Rattle.form_intent.specs.Script.{DomainNames, SetNames, domain_made, domains_made, no_set, set_named, set_names, set_numbers, sets_made, stated, supply_of, supply_with}
 use Rattle.form_intent.specs.Fits.{element_number, elements}
 use Rattle.form_intent.specs.Intent.{domain_with}

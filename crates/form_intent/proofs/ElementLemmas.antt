@@ -6,7 +6,7 @@ use Rattle.std.proofs.lemmas.List.{append-nil, take_all}
 use Rattle.std.specs.List.{cons_option, enumerate_from, filter_map, list_any}
 use Rattle.line_forms.specs.declared.script_lines.CommandLine.{CommandLine}
 use Rattle.line_forms.specs.declared.script_lines.CommandLine.TheVariants.{SupplyNet, SupplyState, SupplySet, Domain}
-use Rattle.base_defs.specs.Members.{all_differ}
+use Rattle.list_defs.specs.Members.{all_differ}
 use Rattle.form_intent.specs.Script.{DomainNames, domain_made}
 use Rattle.form_intent.specs.Fits.{element_number, elements, elements_fit}
 use Rattle.form_intent.specs.Elements.{is_among, line_element}

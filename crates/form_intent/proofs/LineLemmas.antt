@@ -9,8 +9,8 @@ use Rattle.std.proofs.lemmas.List.FromFn.{length-enumerate_from, get_or-enumerat
 use Rattle.std.specs.List.{cons_option, filter_map, flat_map, list_all, list_any, enumerate_from}
 use Rattle.line_forms.specs.declared.script_lines.CommandLine.{CommandLine}
 use Rattle.line_forms.specs.declared.script_lines.CommandLine.TheVariants.{SupplyNet, SupplyState, SupplySet, Domain}
-use Rattle.base_defs.specs.Members.{all_differ, same_name}
-use Rattle.base_defs.proofs.NameLemmas.{all_differ-again, all_differ-push}
+use Rattle.list_defs.specs.Members.{all_differ, same_name}
+use Rattle.list_defs.proofs.NameLemmas.{all_differ-again, all_differ-push}
 use Rattle.form_intent.proofs.ListLemmas.{and_false}
 use Rattle.form_intent.specs.declared.made.Made.{Made}
 use Rattle.form_intent.specs.Script.{net_made, nets_made, object_made, set_made, set_names}

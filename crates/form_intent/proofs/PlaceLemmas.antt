@@ -4,8 +4,8 @@ use Rattle.std.proofs.lemmas.Bool.{not-true}
 use Rattle.std.proofs.lemmas.List.{append-nil, get_or-map, length-map, map-set}
 use Rattle.std.specs.List.{list_any}
 use Rattle.std.specs.Option.{option_map, is_some}
-use Rattle.base_defs.specs.Members.{all_differ, place_of, same_name}
-use Rattle.base_defs.proofs.NameLemmas.{is_some-place_of, same_name-equal, same_name-symmetric}
+use Rattle.list_defs.specs.Members.{all_differ, place_of, same_name}
+use Rattle.list_defs.proofs.NameLemmas.{is_some-place_of, same_name-equal, same_name-symmetric}
 use Rattle.form_intent.proofs.ListLemmas.{and_first, and_last, or_first, or_last}
 
 -- a place is within the list

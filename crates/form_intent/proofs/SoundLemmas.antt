@@ -15,10 +15,10 @@ use Rattle.pw_defs.specs.declared.intent.Intent.{Intent}
 use Rattle.pw_defs.specs.declared.intent.RootList.{RootList}
 use Rattle.pw_defs.specs.declared.values.Value.{Value}
 use Rattle.line_forms.specs.declared.script_lines.CommandLine.{CommandLine}
-use Rattle.base_defs.specs.Members.{place_of, same_name}
-use Rattle.base_defs.specs.Orders.{IsRising}
-use Rattle.intent_defs.specs.Conditions.{speaks_below}
-use Rattle.intent_defs.proofs.Meaning.{speaks_any, speaks_is}
+use Rattle.list_defs.specs.Members.{place_of, same_name}
+use Rattle.list_defs.specs.Orders.{IsRising}
+use Rattle.supply_defs.specs.Conditions.{speaks_below}
+use Rattle.supply_defs.proofs.Meaning.{speaks_any, speaks_is}
 use Rattle.form_intent.specs.Script.{DomainNames, SetNames, cond_of, cond_with, domains_made, nets_made, no_set, root_list, set_named, set_numbers, sets_made, stated, supply_named}
 use Rattle.form_intent.specs.Fits.{script_fits}
 use Rattle.form_intent.specs.Intent.{IsIntentOf, domain_with, supply_names}

@@ -8,9 +8,9 @@ use Rattle.std.specs.declared.cmp.Ordering.TheVariants.{Less, Equal, Greater}
 use Rattle.pw_defs.specs.Values.{value_cmp}
 use Rattle.pw_defs.specs.declared.values.Value.{Value}
 use Rattle.pw_defs.specs.declared.values.Value.TheVariants.{Off, On}
-use Rattle.base_defs.specs.Members.{IsIn}
-use Rattle.base_defs.specs.Orders.{IsRising, AreAllRising}
-use Rattle.base_defs.proofs.TotalOrders.{value_cmp_total}
+use Rattle.list_defs.specs.Members.{IsIn}
+use Rattle.list_defs.specs.Orders.{IsRising, AreAllRising}
+use Rattle.supply_defs.proofs.TotalOrders.{value_cmp_total}
 use Rattle.form_intent.specs.Script.{put_value, put_values, values_of}
 
 length-put_value-le : (v : Value) (ws : List Value) → length ws ≤ length (put_value v ws)

@@ -4,7 +4,7 @@ use Rattle.std.specs.List.{filter_map, list_all, list_any, enumerate_from}
 use Rattle.line_forms.specs.declared.script_lines.CommandLine.{CommandLine}
 use Rattle.line_forms.specs.declared.script_lines.CommandLine.TheVariants.{SupplyNet, SupplyState, SupplySet, Domain}
 use Rattle.line_forms.specs.declared.script_lines.StateWords.{StateWords}
-use Rattle.base_defs.specs.Members.{same_name, place_of, all_differ}
+use Rattle.list_defs.specs.Members.{same_name, place_of, all_differ}
 use Rattle.form_intent.specs.Script.{DomainNames, nets_made, set_names, domains_made, object_made, states_of, stated, values_of}
 
 abbrev pub is_made : List (List ℕ) → List ℕ → Bool

@@ -7,8 +7,8 @@ use Rattle.pw_defs.specs.declared.intent.SupplySet.{SupplySet}
 use Rattle.pw_defs.specs.declared.intent.Unit.{Unit as IntentUnit}
 use Rattle.pw_defs.specs.declared.intent.Want.TheVariants.{Check}
 use Rattle.line_forms.specs.declared.script_lines.CommandLine.{CommandLine}
-use Rattle.base_defs.specs.Members.{place_of}
-use Rattle.base_defs.specs.Orders.{name_cmp, IsPutInOrder}
+use Rattle.list_defs.specs.Members.{place_of}
+use Rattle.list_defs.specs.Orders.{name_cmp, IsPutInOrder}
 use Rattle.form_intent.specs.Script.{DomainNames, nets_made, sets_made, domains_made, supply_of, root_list, cond_of, set_named}
 use Rattle.form_intent.specs.Fits.{element_number, elements}
 

@@ -5,8 +5,8 @@ use Rattle.pw_defs.specs.declared.intent.Intent.{Intent}
 use Rattle.pw_defs.specs.declared.values.Value.{Value}
 use Rattle.pw_defs.specs.declared.values.Value.TheVariants.{Off}
 use Rattle.line_forms.specs.declared.script_lines.CommandLine.{CommandLine}
-use Rattle.base_defs.specs.Members.{IsIn}
-use Rattle.base_defs.specs.Orders.{AreAllRising, IsRising}
+use Rattle.list_defs.specs.Members.{IsIn}
+use Rattle.list_defs.specs.Orders.{AreAllRising, IsRising}
 use Rattle.form_intent.specs.Script.{values_of}
 use Rattle.form_intent.specs.Fits.{script_fits}
 use Rattle.form_intent.specs.Intent.{IsIntentOf}

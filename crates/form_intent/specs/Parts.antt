@@ -3,7 +3,7 @@ use Rattle.std.specs.Prelude.{◌≡◌, ℕ, List, map}
 use Rattle.std.specs.List.{enumerate_from}
 use Rattle.pw_defs.specs.declared.intent.RootList.{RootList}
 use Rattle.line_forms.specs.declared.script_lines.CommandLine.{CommandLine}
-use Rattle.base_defs.specs.Orders.{IsPutInOrder, name_cmp}
+use Rattle.list_defs.specs.Orders.{IsPutInOrder, name_cmp}
 use Rattle.form_intent.specs.declared.parts.Parts.{Parts}
 use Rattle.form_intent.specs.Script.{nets_made, root_list, set_names, stated}
 use Rattle.form_intent.specs.Fits.{elements}

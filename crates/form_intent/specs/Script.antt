@@ -14,7 +14,7 @@ use Rattle.pw_defs.specs.declared.values.Value.TheVariants.{Off, On}
 use Rattle.line_forms.specs.declared.script_lines.CommandLine.{CommandLine}
 use Rattle.line_forms.specs.declared.script_lines.CommandLine.TheVariants.{SupplyNet, SupplyState, SupplySet as SetLine, Domain as DomainLine}
 use Rattle.line_forms.specs.declared.script_lines.StateWords.{StateWords}
-use Rattle.base_defs.specs.Members.{same_name, place_of}
+use Rattle.list_defs.specs.Members.{same_name, place_of}
 
 -- a set as its line names it: the power and the ground
 pub record SetNames : Type 0 where

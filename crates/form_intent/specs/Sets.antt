@@ -2,7 +2,7 @@
 use Rattle.std.specs.Prelude.{ℕ, List, slice_get, unwrap_or}
 use Rattle.std.specs.Option.{option_and_then}
 use Rattle.pw_defs.specs.declared.intent.SupplySet.{SupplySet}
-use Rattle.base_defs.specs.Members.{place_of, same_name}
+use Rattle.list_defs.specs.Members.{place_of, same_name}
 use Rattle.form_intent.specs.Script.{no_set}
 
 -- the set at the place of a name

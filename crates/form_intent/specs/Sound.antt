@@ -6,8 +6,8 @@ use Rattle.pw_defs.specs.declared.intent.RootList.{RootList}
 use Rattle.pw_defs.specs.declared.intent.Domain.{Domain}
 use Rattle.pw_defs.specs.declared.intent.SupplySet.{SupplySet}
 use Rattle.pw_defs.specs.declared.conditions.UnitCond.{UnitCond}
-use Rattle.base_defs.specs.Orders.{IsRising}
-use Rattle.intent_defs.specs.Conditions.{speaks_below}
+use Rattle.list_defs.specs.Orders.{IsRising}
+use Rattle.supply_defs.specs.Conditions.{speaks_below}
 
 -- a set names supplies below a number
 pub record NamesBelow (n : ℕ) (set : SupplySet) : Type 0 where

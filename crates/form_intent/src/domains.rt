@@ -1,7 +1,7 @@
 //! The supply sets and the domains.
 ghost use Rattle.std.specs.Prelude.{◌≡◌, ◌≤◌, ◌++◌, Some, map, length, option_map, option_to_list, slice_get, IfOk, OnOk};
 ghost use Rattle.std.specs.List.{enumerate_from, filter_map};
-ghost use Rattle.base_defs.specs.Members.{same_name};
+ghost use Rattle.list_defs.specs.Members.{same_name};
 ghost use Rattle.form_intent.specs.Script.{domain_made, domains_made, set_made, set_names, set_named, set_numbers, sets_made, supply_named};
 ghost use Rattle.form_intent.specs.Intent.{domain_with};
 ghost use Rattle.form_intent.specs.Sets.{set_at};

@@ -1,7 +1,7 @@
 //! The elements of the domains, and the domain of each instance.
 ghost use Rattle.std.specs.Prelude.{◌≡◌, ◌++◌, ◌<◌, ◌^◌, true, false, not, length, map, option_to_list, unwrap_or, ◌==◌, IfOk, MatchBool, MatchOption};
 ghost use Rattle.std.specs.List.{enumerate_from};
-ghost use Rattle.base_defs.specs.Members.{place_of};
+ghost use Rattle.list_defs.specs.Members.{place_of};
 ghost use Rattle.form_intent.specs.Fits.{element_number, elements, elements_fit};
 ghost use Rattle.form_intent.specs.Intent.{anchor, domain_for};
 ghost use Rattle.form_intent.specs.Elements.{is_among, line_element};

@@ -11,8 +11,6 @@ mod made;
 mod parts;
 mod states;
 mod supplies;
-#[cfg(test)]
-mod tests;
 mod values;
 
 pub use intents::intent_of;

@@ -1,6 +1,6 @@
 //! What the lines make and state, where the script is of the form.
 ghost use Rattle.std.specs.Prelude.{◌≡◌, ◌&&◌, true, false, length, nat_le, IfOk, MatchOption};
-ghost use Rattle.base_defs.specs.Members.{all_differ, same_name};
+ghost use Rattle.list_defs.specs.Members.{all_differ, same_name};
 ghost use Rattle.form_intent.specs.Script.{nets_made, set_names};
 ghost use Rattle.form_intent.specs.Fits.{names_fit, script_fits};
 

@@ -2,7 +2,7 @@
 ghost use Rattle.std.specs.Prelude.{◌≡◌, ◌++◌, ℕ, List, true, false, length, map, IfOk, OnOk, MatchOption};
 ghost use Rattle.std.specs.List.{list_all};
 ghost use Rattle.line_forms.specs.declared.script_lines.StateWords.{StateWords};
-ghost use Rattle.base_defs.specs.Members.{all_differ, same_name};
+ghost use Rattle.list_defs.specs.Members.{all_differ, same_name};
 ghost use Rattle.form_intent.specs.Script.{stated, states_of, states_on};
 ghost use Rattle.form_intent.specs.Fits.{states_differ};
 

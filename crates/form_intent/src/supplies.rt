@@ -1,7 +1,7 @@
 //! The supply nets, in order of their names.
 ghost use Rattle.std.specs.Prelude.{◌≡◌, ◌++◌, true, map, option_to_list, IfOk, OnOk};
-ghost use Rattle.base_defs.specs.Members.{all_differ, same_name};
-ghost use Rattle.base_defs.specs.Orders.{IsPutInOrder, name_cmp};
+ghost use Rattle.list_defs.specs.Members.{all_differ, same_name};
+ghost use Rattle.list_defs.specs.Orders.{IsPutInOrder, name_cmp};
 ghost use Rattle.form_intent.specs.Script.{net_made, nets_made};
 
 use line_forms::CommandLine;

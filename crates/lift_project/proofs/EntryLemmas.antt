@@ -3,17 +3,18 @@ use Rattle.std.proofs.Common.{◌≡◌, ℕ, ◌*◌, ◌%◌, ◌^◌, ◌<◌
 use Rattle.std.specs.Int.{bit_at}
 use Rattle.std.proofs.Math.Pow.{pow-lt}
 use Rattle.std.proofs.Math.Nat.{mod-eq_of_lt}
+use Rattle.std.proofs.Math.Bool.{and-false}
 use Rattle.std.proofs.lemmas.Nat.Bits.{bit_at-pow_same, bit_at-pow_other}
 use Rattle.std.proofs.lemmas.Bool.{cases_eq, eq-eqb, ne_eqb}
 use Rattle.diagram_defs.specs.Rests.{is_rest}
 use Rattle.diagram_defs.specs.Diagrams.{Diagram, member, IsSet, IsNumberFor, Grows}
 use Rattle.diagram_defs.specs.Diagrams.IsKid.{empty}
 use Rattle.diagram_defs.specs.Sets.{literal_set, and_set}
-use Rattle.diagram_defs.specs.Parts.{IsPartOf}
+use Rattle.diagram_defs.specs.Parts.{IsPartOfSome, IsPartOf}
 use Rattle.diagram_defs.proofs.PartLemmas.{IsPartOf_same, IsPartOf_grown}
 use Rattle.diagram_defs.proofs.Meaning.{member-empty}
 use Rattle.diagram_defs.proofs.Growth.{member_grows}
-use Rattle.lift_project.specs.Entries.{value_set, held_set, IsPartOfSome}
+use Rattle.lift_project.specs.Entries.{value_set, held_set}
 
 -- the shift by an index, as it is computed
 pub shifted : (k : ℕ) → k < 64 → 1 * 2 ^ k % 18446744073709551616 ≡ 2 ^ k
@@ -52,9 +53,5 @@ held_none d level index n none = record {
   in_level = empty refl;
   same = λ state.
       member-empty d.nodes state
-      ∙ sym (ap (λ (k : ℕ). value_set d.arities level index state && member d.nodes k state) none ∙ ap (λ (b : Bool). value_set d.arities level index state && b) (member-empty d.nodes state) ∙ and_none (value_set d.arities level index state));
+      ∙ sym (ap (λ (k : ℕ). value_set d.arities level index state && member d.nodes k state) none ∙ ap (λ (b : Bool). value_set d.arities level index state && b) (member-empty d.nodes state) ∙ and-false (value_set d.arities level index state));
 }
-  where
-    and_none : (b : Bool) → (b && false) ≡ false
-    and_none true = refl
-    and_none false = refl

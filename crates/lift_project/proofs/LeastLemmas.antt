@@ -1,4 +1,4 @@
--- Which states come before which, and how the least state of a set begins.
+-- How the least state of a set begins.
 use Rattle.std.proofs.Common.{◌≡◌, ◌≢◌, ℕ, ◌<◌, true, ◌⊎◌, List, [], ◌∷◌, ◌++◌, length, get_or, refl, sym, ap, ◌∙◌, subst, inl, inr, arith, append_assoc, append-nil}
 use Rattle.std.specs.Ordering.{ordering_then}
 use Rattle.std.specs.Cmp.{nat_cmp_is}
@@ -9,19 +9,8 @@ use Rattle.std.proofs.lemmas.List.{get_or_past}
 use Rattle.diagram_defs.specs.Diagrams.{Shape, Diagram, kid, member, IsSet, IsPool}
 use Rattle.diagram_defs.specs.Diagrams.IsKid.{empty, whole, node}
 use Rattle.diagram_defs.proofs.Meaning.{member-empty, kid-node}
-use Rattle.lift_project.specs.States.{state_cmp}
-
-cmp_front : (front xs ys : List ℕ) → state_cmp (front ++ xs) (front ++ ys) ≡ state_cmp xs ys
-cmp_front [] xs ys = refl
-cmp_front (x ∷ front) xs ys =
-    ap (λ (o : Ordering). ordering_then o (state_cmp (front ++ xs) (front ++ ys))) (sym (nat_cmp_is x x Equal refl)) ∙ cmp_front front xs ys
-
-pub cmp_itself : (xs : List ℕ) → state_cmp xs xs ≡ Equal
-cmp_itself xs =
-    ap (λ (ys : List ℕ). state_cmp ys ys) (sym (append-nil xs)) ∙ cmp_front xs [] []
-
-cmp_above : (w v : ℕ) (xs ys : List ℕ) → v < w → state_cmp (w ∷ xs) (v ∷ ys) ≡ Greater
-cmp_above w v xs ys more = ap (λ (o : Ordering). ordering_then o (state_cmp xs ys)) (sym (nat_cmp_is w v Greater more))
+use Rattle.diagram_defs.specs.States.{state_cmp}
+use Rattle.diagram_defs.proofs.StateOrder.{cmp_front, cmp_itself, cmp_above}
 
 -- the least rest of a set goes on behind a front: each other rest that begins otherwise comes later
 pub record LeadsLeast (nodes : List Shape) (whole n : ℕ) (front : List ℕ) : Type 0 where
@@ -65,29 +54,3 @@ module _ (nodes : List Shape) (whole : ℕ) where
           last : (rest : List ℕ) → y ≡ front ++ rest → member nodes 1 rest ≡ true → ⊥
           last [] e m = let same = ap (λ (x : List ℕ). state_cmp x front) (e ∙ append-nil front) in let itself = cmp_itself front in cc
           last (w ∷ rest) e m = false≢true (sym (member-empty nodes rest) ∙ m)
-
--- a number above the last level isn't 1
-pub inner_number : (d : Diagram) (level n : ℕ) → level < length d.arities → IsSet d level n → n ≢ 1
-inner_number d level n inside (empty z) one = omega arith
-inner_number d level n inside (whole w at) one = omega arith
-inner_number d level n inside (node at shape is below there same) one = omega arith
-
--- behind the last level only 1 isn't empty
-pub last_number : (d : Diagram) (pool : IsPool d) (level n : ℕ) → level ≡ length d.arities → IsSet d level n → n ≢ 0 → n ≡ 1
-last_number d pool level n at (empty z) ne = absurd (ne z)
-last_number d pool level n at (whole w at') ne = w
-last_number d pool level n at (node place shape is below there same) ne =
-    let good = (pool.nodes.each place shape there).level_in in absurd (omega arith)
-
--- a set that isn't empty has a rest behind some value
-pub some_kid : (d : Diagram) (pool : IsPool d) (level n : ℕ) → level < length d.arities → IsSet d level n → n ≢ 0 → ((v : ℕ) → v < get_or d.arities level 0 → kid d.nodes n v ≡ 0) → ⊥
-some_kid d pool level n inside (empty z) ne none = ne z
-some_kid d pool level n inside (whole w at) ne none = omega arith
-some_kid d pool level n inside (node at shape is below there same) ne none =
-    let some = pool.sharp.nonempty at shape there in
-    let good = (pool.nodes.each at shape there).arity in
-    let wide : length shape.kids ≡ get_or d.arities level 0 = good ∙ ap (λ (l : ℕ). get_or d.arities l 0) same in
-    elim (cases_lt some.0 (length shape.kids)) [
-      | inl low ↦ some.1 (sym (kid-node d.nodes n at shape some.0 is there) ∙ none some.0 (omega arith))
-      | inr past ↦ some.1 (get_or_past shape.kids some.0 0 past)
-    ]

@@ -4,4 +4,3 @@ pub mod LiftLemmas
 pub mod LiftedLemmas
 pub mod MarkLemmas
 pub mod PrefixLemmas
-pub mod SmallTables

@@ -5,19 +5,19 @@ use Rattle.std.proofs.lemmas.List.{get_or_past, drop_more}
 use Rattle.std.proofs.lemmas.List.Sums.{position_or_len_is, passes_at_first}
 use Rattle.std.proofs.lemmas.Bool.{and_parts, and_from, or_cases, or_left, or_right, cases_lt, eqb-true, eq-eqb, false≢true, false_from_ne_true}
 use Rattle.std.proofs.lemmas.Option.{slice_get-get_or}
-use Rattle.pw_defs.specs.declared.model.Kept.{Kept}
-use Rattle.pw_defs.specs.declared.model.KeptNode.{KeptNode}
-use Rattle.pw_defs.specs.declared.model.Place.{Place}
+use Rattle.plain_lists.specs.declared.kept.Kept.{Kept}
+use Rattle.plain_lists.specs.declared.kept.KeptNode.{KeptNode}
+use Rattle.plain_lists.specs.declared.kept.Place.{Place}
 use Rattle.diagram_defs.specs.Rests.{is_rest}
 use Rattle.diagram_defs.specs.Diagrams.{Diagram, Shape, member, kid, kids_of, IsNumberFor, Grows}
 use Rattle.diagram_defs.specs.Diagrams.IsKid.{empty, whole, node}
 use Rattle.diagram_defs.specs.Sets.{or_set}
-use Rattle.diagram_defs.specs.Parts.{IsPartOf}
+use Rattle.diagram_defs.specs.Parts.{IsPartOfSome, IsPartOf}
 use Rattle.diagram_defs.proofs.Listed.{same_truth}
 use Rattle.diagram_defs.proofs.Meaning.{member-empty, kids_of-node}
 use Rattle.diagram_defs.proofs.Growth.{member_grows}
 use Rattle.lift_project.specs.Lifts.{shape_of, shapes_of, AreKeptNodes, IsKept, IsPlace, ArePlaces, read_back, lifted_set}
-use Rattle.lift_project.specs.Entries.{value_set, alternative_set, first_alternatives, held_set, IsStep, IsPartOfSome, IsAllowed}
+use Rattle.lift_project.specs.Entries.{value_set, alternative_set, first_alternatives, held_set, IsStep, IsAllowed}
 use Rattle.lift_project.specs.Entries.IsStep.{alone, both}
 use Rattle.lift_project.specs.Entries.IsEntry.{first, alternative, value}
 use Rattle.lift_project.proofs.MarkLemmas.{kept_shape}

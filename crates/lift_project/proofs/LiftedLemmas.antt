@@ -1,10 +1,11 @@
 -- The sets of all kept numbers to which a kept number leads, from the lower numbers up.
 use Rattle.std.proofs.Common.{◌≡◌, ℕ, suc, ◌+◌, ◌≤◌, ◌<◌, Bool, true, false, ◌&&◌, List, [], ◌∷◌, length, get_or, drop, set, refl, sym, ap, ◌∙◌, subst, inl, inr, arith}
+use Rattle.std.proofs.Math.Bool.{and-false, and-true}
 use Rattle.std.proofs.lemmas.Bool.{cases_eq}
 use Rattle.std.proofs.lemmas.Grind.{get_or-set_at}
 use Rattle.std.proofs.lemmas.List.{drop_all, get_or-set_other}
-use Rattle.pw_defs.specs.declared.model.Kept.{Kept}
-use Rattle.pw_defs.specs.declared.model.Place.{Place}
+use Rattle.plain_lists.specs.declared.kept.Kept.{Kept}
+use Rattle.plain_lists.specs.declared.kept.Place.{Place}
 use Rattle.diagram_defs.specs.Rests.{is_rest}
 use Rattle.diagram_defs.specs.Diagrams.{Diagram, Shape, member, kid, kids_of, IsNumberFor, Grows}
 use Rattle.diagram_defs.specs.Diagrams.IsKid.{empty, whole, node}
@@ -22,28 +23,20 @@ use Rattle.lift_project.proofs.MarkLemmas.{number_below, no_kids}
 pub record AreLifted (kept : Kept) (arities : List ℕ) (places : List Place) (d : Diagram) (marks : List Bool) (n : ℕ) (sets : List ℕ) : Type 0 where
   pub each : (m level : ℕ) → m < n → IsMarked marks m → IsKept kept level m → IsNumberFor d 0 (lifted_set arities (shapes_of kept) (drop level places) m) (get_or sets m 0)
 
-and_true : (b : Bool) → (b && true) ≡ b
-and_true true = refl
-and_true false = refl
-
-and_none : (b : Bool) → (b && false) ≡ false
-and_none true = refl
-and_none false = refl
-
 -- 0 has no states, and 1 all of them
 pub lifted_none : (d : Diagram) (arities : List ℕ) (nodes : List Shape) (places : List Place) (n set : ℕ) → n ≡ 0 → set ≡ 0 → IsNumberFor d 0 (lifted_set arities nodes places n) set
 lifted_none d arities nodes places n set none is = record {
   in_level = empty is;
   same = λ state.
       ap (λ (k : ℕ). member d.nodes k state) is ∙ member-empty d.nodes state
-      ∙ sym (ap (λ (k : ℕ). is_rest arities state && member nodes k (read_back places state)) none ∙ ap (λ (b : Bool). is_rest arities state && b) (member-empty nodes (read_back places state)) ∙ and_none (is_rest arities state));
+      ∙ sym (ap (λ (k : ℕ). is_rest arities state && member nodes k (read_back places state)) none ∙ ap (λ (b : Bool). is_rest arities state && b) (member-empty nodes (read_back places state)) ∙ and-false (is_rest arities state));
 }
 
 pub lifted_whole : (d : Diagram) (kept : Kept) (places : List Place) (level n : ℕ) → ArePlaces kept d.arities places → n ≡ 1 → IsKept kept level n → (state : List ℕ) → full_set d 0 state ≡ lifted_set d.arities (shapes_of kept) (drop level places) n state
 lifted_whole d kept places level n fits one (empty z) state = absurd (omega arith)
 lifted_whole d kept places level n fits one (whole w at) state =
     let none : drop level places ≡ [] = drop_all level places (let c = fits.count in omega arith) in
-    sym (ap (λ (ps : List Place). lifted_set d.arities (shapes_of kept) ps n state) none ∙ ap (λ (k : ℕ). lifted_set d.arities (shapes_of kept) [] k state) one ∙ and_true (is_rest d.arities state))
+    sym (ap (λ (ps : List Place). lifted_set d.arities (shapes_of kept) ps n state) none ∙ ap (λ (k : ℕ). lifted_set d.arities (shapes_of kept) [] k state) one ∙ and-true (is_rest d.arities state))
 lifted_whole d kept places level n fits one (node at shape is below there same) state = absurd (omega arith)
 
 -- what a number leads to is kept at its level

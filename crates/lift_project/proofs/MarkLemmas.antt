@@ -4,7 +4,7 @@ use Rattle.std.specs.List.{slice_get}
 use Rattle.std.proofs.lemmas.Bool.{cases_lt, cases_eq}
 use Rattle.std.proofs.lemmas.Option.{slice_get-map, slice_get-get_or}
 use Rattle.std.proofs.lemmas.Grind.{get_or_default_zero}
-use Rattle.pw_defs.specs.declared.model.KeptNode.{KeptNode}
+use Rattle.plain_lists.specs.declared.kept.KeptNode.{KeptNode}
 use Rattle.diagram_defs.specs.Diagrams.{Shape, kid, kids_of, IsKid, AreNodes}
 use Rattle.diagram_defs.specs.Diagrams.IsKid.{empty, whole, node}
 use Rattle.diagram_defs.proofs.Meaning.{kid-node, kids_of-node}

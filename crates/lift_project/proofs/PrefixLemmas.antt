@@ -4,6 +4,7 @@ use Rattle.std.specs.declared.hash.FoldHasher.{FoldHasher}
 use Rattle.std.specs.declared.hash.BuildHasherDefault.{BuildHasherDefault}
 use Rattle.std.specs.HashMap.{HashMap, get, IsUnchanged}
 use Rattle.std.specs.Map.{lookup}
+use Rattle.std.proofs.Math.Bool.{and-false}
 use Rattle.std.proofs.lemmas.Bool.{and_parts, and_from, cases_Bool, false≢true, eqb-true, eq-eqb, ne_eqb, not_from_false}
 use Rattle.std.proofs.lemmas.Option.{same_Some}
 use Rattle.std.proofs.lemmas.List.{drop_all, drop_at}
@@ -18,17 +19,13 @@ use Rattle.diagram_defs.proofs.Growth.{IsNumberFor_grows}
 use Rattle.diagram_defs.proofs.Steps.{rest_behind, member_rest}
 use Rattle.lift_project.specs.Prefixes.{starts, starts_set, IsFound, AreFound, AreFirst}
 
-and_none : (m : Bool) → (m && false) ≡ false
-and_none true = refl
-and_none false = refl
-
 pub starts-empty : (nodes : List Shape) (front : List ℕ) → starts nodes 0 front ≡ false
 starts-empty nodes [] = refl
 starts-empty nodes (v ∷ front) = starts-empty nodes front
 
 pub starts_none : (arities : List ℕ) (nodes : List Shape) (level n : ℕ) (front : List ℕ) → n ≡ 0 → starts_set arities nodes level n front ≡ false
 starts_none arities nodes level n front z =
-    ap (λ (k : ℕ). is_rest (drop level arities) front && starts nodes k front) z ∙ ap (λ (m : Bool). is_rest (drop level arities) front && m) (starts-empty nodes front) ∙ and_none (is_rest (drop level arities) front)
+    ap (λ (k : ℕ). is_rest (drop level arities) front && starts nodes k front) z ∙ ap (λ (m : Bool). is_rest (drop level arities) front && m) (starts-empty nodes front) ∙ and-false (is_rest (drop level arities) front)
 
 pub AreRests_starts : (into : Diagram) (nodes : List Shape) (level n : ℕ) → AreRests into level (starts_set into.arities nodes level n)
 AreRests_starts into nodes level n = record { each = λ rest e. (and_parts _ _ e).0 }

@@ -2,10 +2,10 @@
 -- says that the place has the value, and what the child says. The sets of these expressions, and of how far each has
 -- been read, are the entries whose parts may have nodes.
 use Rattle.std.specs.Prelude.{ℕ, zero, suc, ◌≤◌, ◌<◌, Bool, false, ◌&&◌, ◌||◌, List, ◌∷◌, length, slice_index, nat_eq}
-use Rattle.pw_defs.specs.declared.model.Place.{Place}
+use Rattle.plain_lists.specs.declared.kept.Place.{Place}
 use Rattle.diagram_defs.specs.Rests.{is_rest}
 use Rattle.diagram_defs.specs.Diagrams.{Shape, kid, kids_of}
-use Rattle.diagram_defs.specs.Parts.{IsPartOf}
+use Rattle.diagram_defs.specs.Parts.{IsPartOfSome}
 use Rattle.lift_project.specs.Lifts.{lifted_set}
 
 -- the whole states that have an index at a level
@@ -32,12 +32,6 @@ pub data IsEntry (arities : List ℕ) (nodes : List Shape) : List Place → ℕ 
   value : (place : Place) (places : List Place) (n v : ℕ) → v < length (kids_of nodes n) → IsEntry arities nodes (place ∷ places) n (value_set arities place.level (slice_index place.values v))
   every : (place : Place) (places : List Place) (n v : ℕ) → v < length (kids_of nodes n) → IsEntry arities nodes (place ∷ places) n (is_rest arities)
   child : (place : Place) (places : List Place) (n v : ℕ) (set : List ℕ → Bool) → v < length (kids_of nodes n) → IsEntry arities nodes places (kid nodes n v) set → IsEntry arities nodes (place ∷ places) n set
-
--- a part of one of some sets of whole states
-pub record IsPartOfSome (levels : ℕ) (IsListed : (List ℕ → Bool) → Type 0) (level : ℕ) (part : List ℕ → Bool) : Type 0 where
-  pub entry : List ℕ → Bool
-  pub listed : IsListed entry
-  pub of : IsPartOf levels 0 entry level part
 
 -- a part of what a kept number stands for at its places
 abbrev pub IsAllowed : List ℕ → List Shape → List Place → ℕ → ℕ → (List ℕ → Bool) → Type 0

@@ -3,4 +3,3 @@ pub mod Lifted
 pub mod Lifts
 pub mod Marks
 pub mod Prefixes
-pub mod States

@@ -1,6 +1,6 @@
 -- Sets that were found for kept numbers.
 use Rattle.std.specs.Prelude.{ℕ, ◌<◌, List, length, slice_index}
-use Rattle.pw_defs.specs.declared.model.Place.{Place}
+use Rattle.plain_lists.specs.declared.kept.Place.{Place}
 use Rattle.diagram_defs.specs.Diagrams.{Diagram, Shape, IsNumberFor, kid, kids_of}
 use Rattle.lift_project.specs.Lifts.{lifted_set}
 

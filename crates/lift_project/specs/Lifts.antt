@@ -1,9 +1,9 @@
 -- Kept sets, their places among the levels of a table, and the sets of whole states that they are lifted to.
 use Rattle.std.specs.Prelude.{◌≡◌, ℕ, ◌<◌, Bool, ◌&&◌, List, Some, length, map, slice_get, slice_index, nat_eq}
 use Rattle.std.specs.List.{position_or_len}
-use Rattle.pw_defs.specs.declared.model.Kept.{Kept}
-use Rattle.pw_defs.specs.declared.model.KeptNode.{KeptNode}
-use Rattle.pw_defs.specs.declared.model.Place.{Place}
+use Rattle.plain_lists.specs.declared.kept.Kept.{Kept}
+use Rattle.plain_lists.specs.declared.kept.KeptNode.{KeptNode}
+use Rattle.plain_lists.specs.declared.kept.Place.{Place}
 use Rattle.diagram_defs.specs.Rests.{is_rest}
 use Rattle.diagram_defs.specs.Diagrams.{Shape, IsKid, AreNodes, member}
 

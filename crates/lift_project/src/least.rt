@@ -2,9 +2,9 @@
 
 ghost use Rattle.std.specs.Prelude.{◌≡◌, ◌≢◌, ◌<◌, ◌↔◌, ℕ, IsTrue, length, true};
 ghost use Rattle.std.specs.Bool.{OnTrue, OnFalse};
-ghost use Rattle.base_defs.specs.Orders.{IsLeast};
+ghost use Rattle.list_defs.specs.Orders.{IsLeast};
 ghost use Rattle.diagram_defs.specs.Diagrams.{IsSet, kid, member};
-ghost use Rattle.lift_project.specs.States.{state_cmp};
+ghost use Rattle.diagram_defs.specs.States.{state_cmp};
 
 use state_diagrams::Pool;
 

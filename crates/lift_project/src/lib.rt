@@ -6,8 +6,6 @@ mod least;
 mod lifts;
 mod prefixes;
 mod reached;
-#[cfg(test)]
-mod tests;
 
 pub use least::first;
 pub use lifts::lift;

@@ -2,14 +2,14 @@
 
 ghost use Rattle.std.specs.Prelude.{◌≤◌, ◌<◌, ◌+◌, IfOk, IfErr, length, drop, slice_index};
 ghost use Rattle.diagram_defs.specs.Diagrams.{IsSet, IsNumberFor, member};
-ghost use Rattle.diagram_defs.specs.Parts.{GrowsBy};
-ghost use Rattle.diagram_defs.specs.Answers.{IsCause};
+ghost use Rattle.diagram_defs.specs.Parts.{IsPartOfSome};
+ghost use Rattle.diagram_defs.specs.Answers.{Makes};
 ghost use Rattle.lift_project.specs.Lifts.{shapes_of, AreKeptNodes, IsKept, ArePlaces, lifted_set};
-ghost use Rattle.lift_project.specs.Entries.{held_set, IsStep, IsPartOfSome, IsAllowed};
+ghost use Rattle.lift_project.specs.Entries.{held_set, IsStep, IsAllowed};
 ghost use Rattle.lift_project.specs.Lifted.{AreKidsLifted};
 
 use crate::reached::reached;
-use pw_defs::{DiagFault, Kept, Place};
+use plain_lists::{DiagFault, Kept, Place};
 use state_diagrams::Pool;
 
 /// The number of the states of `into` whose values at the places, read back, are in a kept set. There is a place for
@@ -20,9 +20,7 @@ pub fn lift(kept: &Kept, node: u32, into: &mut Pool, places: &[Place]) -> Result
     requires places { ArePlaces kept.now into.old.arities places.now }
     requires nodes { AreKeptNodes kept.now }
     requires number { IsKept kept.now 0 node }
-    ensures number { IfOk result (IsNumberFor into.new 0 (lifted_set into.old.arities (shapes_of kept.now) places.now node)) }
-    ensures grows { GrowsBy (IsAllowed into.old.arities (shapes_of kept.now) places.now node) into.old into.new }
-    ensures cause { IfErr result (IsCause into.new (IsAllowed into.old.arities (shapes_of kept.now) places.now node)) }
+    ensures { Makes (IsAllowed into.old.arities (shapes_of kept.now) places.now node) 0 (lifted_set into.old.arities (shapes_of kept.now) places.now node) into.old into.new result }
 {
     let alloc = into.allocator();
     let marks = reached(alloc, kept, node)?;
@@ -63,9 +61,7 @@ fn number_set(
     requires low { 1 ≤ n }
     requires number { IsKept kept.now level n }
     requires sets { AreKidsLifted into.old (shapes_of kept.now) (drop (level + 1) places.now) n sets.now }
-    ensures number { IfOk result (IsNumberFor into.new 0 (lifted_set into.old.arities (shapes_of kept.now) (drop level places.now) n)) }
-    ensures grows { GrowsBy (IsAllowed into.old.arities (shapes_of kept.now) (drop level places.now) n) into.old into.new }
-    ensures cause { IfErr result (IsCause into.new (IsAllowed into.old.arities (shapes_of kept.now) (drop level places.now) n)) }
+    ensures { Makes (IsAllowed into.old.arities (shapes_of kept.now) (drop level places.now) n) 0 (lifted_set into.old.arities (shapes_of kept.now) (drop level places.now) n) into.old into.new result }
 {
     if n == 1 {
         return into.full(0);
@@ -87,9 +83,7 @@ fn node_set(
     requires low { 2 ≤ n }
     requires number { IsKept kept.now level n }
     requires sets { AreKidsLifted into.old (shapes_of kept.now) (drop (level + 1) places.now) n sets.now }
-    ensures number { IfOk result (IsNumberFor into.new 0 (lifted_set into.old.arities (shapes_of kept.now) (drop level places.now) n)) }
-    ensures grows { GrowsBy (IsAllowed into.old.arities (shapes_of kept.now) (drop level places.now) n) into.old into.new }
-    ensures cause { IfErr result (IsCause into.new (IsAllowed into.old.arities (shapes_of kept.now) (drop level places.now) n)) }
+    ensures { Makes (IsAllowed into.old.arities (shapes_of kept.now) (drop level places.now) n) 0 (lifted_set into.old.arities (shapes_of kept.now) (drop level places.now) n) into.old into.new result }
 {
     let _count = into.nodes();
     let kids = kept.nodes.as_slice()[n - 2].kids.as_slice();
@@ -108,9 +102,7 @@ fn held(into: &mut Pool, level: u32, index: u8, n: u32) -> Result<u32, DiagFault
     requires level_in { level < length into.old.arities }
     requires index { index < slice_index into.old.arities level }
     requires number { IsSet into.old 0 n }
-    ensures number { IfOk result (IsNumberFor into.new 0 (held_set into.old.arities level index (member into.old.nodes n))) }
-    ensures grows { GrowsBy (IsPartOfSome (length into.old.arities) (IsStep into.old.arities level index (member into.old.nodes n))) into.old into.new }
-    ensures cause { IfErr result (IsCause into.new (IsPartOfSome (length into.old.arities) (IsStep into.old.arities level index (member into.old.nodes n)))) }
+    ensures { Makes (IsPartOfSome (length into.old.arities) (IsStep into.old.arities level index (member into.old.nodes n))) 0 (held_set into.old.arities level index (member into.old.nodes n)) into.old into.new result }
 {
     let _count = into.nodes();
     if into.is_empty(n) {

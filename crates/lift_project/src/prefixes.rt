@@ -3,11 +3,10 @@
 ghost use Rattle.std.specs.Prelude.{◌≡◌, ◌≢◌, ◌≤◌, ◌<◌, ◌+◌, ◌-◌, ◌*◌, ℕ, IfOk, IfErr, length, vec_len};
 ghost use Rattle.diagram_defs.specs.Diagrams.{IsPool, IsSet, IsNumberFor, AreKidsFor, Grows};
 ghost use Rattle.diagram_defs.specs.Sets.{prefix_set};
-ghost use Rattle.diagram_defs.specs.Parts.{GrowsBy, IsPartOf};
-ghost use Rattle.diagram_defs.specs.Answers.{IsCause};
+ghost use Rattle.diagram_defs.specs.Answers.{MakesSet, MakesKids};
 ghost use Rattle.lift_project.specs.Prefixes.{starts_set, AreFound, AreFirst};
 
-use pw_defs::DiagFault;
+use plain_lists::DiagFault;
 use state_diagrams::Pool;
 use std::collections::HashMap;
 
@@ -16,9 +15,7 @@ use std::collections::HashMap;
 pub fn project(from: &Pool, node: u32, into: &mut Pool) -> Result<u32, DiagFault>
     requires levels { AreFirst from.now into.old }
     requires number { IsSet from.now 0 node }
-    ensures number { IfOk result (IsNumberFor into.new 0 (prefix_set from.now (length into.old.arities) node)) }
-    ensures grows { GrowsBy (IsPartOf (length into.old.arities) 0 (prefix_set from.now (length into.old.arities) node)) into.old into.new }
-    ensures cause { IfErr result (IsCause into.new (IsPartOf (length into.old.arities) 0 (prefix_set from.now (length into.old.arities) node))) }
+    ensures { MakesSet 0 (prefix_set from.now (length into.old.arities) node) into.old into.new result }
 {
     let _count = from.nodes();
     let mut done = HashMap::new(into.allocator());
@@ -39,9 +36,7 @@ fn prefixes(
     requires number { IsSet from.now level n }
     requires table { IsPool from.now }
     requires done { AreFound from.now into.old done.old }
-    ensures number { IfOk result (IsNumberFor into.new level (starts_set into.old.arities from.now.nodes level n)) }
-    ensures grows { GrowsBy (IsPartOf (length into.old.arities) level (starts_set into.old.arities from.now.nodes level n)) into.old into.new }
-    ensures cause { IfErr result (IsCause into.new (IsPartOf (length into.old.arities) level (starts_set into.old.arities from.now.nodes level n))) }
+    ensures makes { MakesSet level (starts_set into.old.arities from.now.nodes level n) into.old into.new result }
     ensures done { AreFound from.now into.new done.new }
 {
     let levels = into.level(1);
@@ -75,9 +70,7 @@ fn prefix_kids(
     requires number { IsSet from.now level n }
     requires table { IsPool from.now }
     requires done { AreFound from.now into.old done.old }
-    ensures kids { IfOk result (λ kids. AreKidsFor into.new level (starts_set into.old.arities from.now.nodes level n) kids.items) }
-    ensures grows { GrowsBy (IsPartOf (length into.old.arities) level (starts_set into.old.arities from.now.nodes level n)) into.old into.new }
-    ensures cause { IfErr result (IsCause into.new (IsPartOf (length into.old.arities) level (starts_set into.old.arities from.now.nodes level n))) }
+    ensures makes { MakesKids (λ kids. kids.items) level (starts_set into.old.arities from.now.nodes level n) into.old into.new result }
     ensures done { AreFound from.now into.new done.new }
 {
     let arity = into.arity(level);

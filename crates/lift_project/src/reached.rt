@@ -4,7 +4,7 @@ ghost use Rattle.std.specs.Prelude.{◌<◌, IfOk, All, length};
 ghost use Rattle.lift_project.specs.Lifts.{shapes_of, AreKeptNodes, IsKept};
 ghost use Rattle.lift_project.specs.Marks.{AreReached, MarksKids};
 
-use pw_defs::Kept;
+use plain_lists::Kept;
 use std::alloc::{AllocError, Global};
 
 /// A mark for each number up to a kept number of the first level: whether it is that number, or one to which that

@@ -10,7 +10,7 @@ use Rattle.std.proofs.lemmas.List.{take_at, drop_at, take-append-drop}
 use Rattle.std.proofs.lemmas.Slice.Eq.{bytes_eq-Decides}
 use Rattle.pw_defs.specs.declared.values.Value.{Value}
 use Rattle.pw_defs.specs.declared.values.Value.TheVariants.{Off, On}
-use Rattle.base_defs.specs.Volts.{is_point, digits_of, IsVolts}
+use Rattle.text_defs.specs.Volts.{is_point, digits_of, IsVolts}
 use Rattle.line_forms.specs.Names.{IsId}
 use Rattle.line_forms.specs.ScriptForm.{state_text, ground_text, element_text, command_text, script_text, ReadsAs, IsState, IsCommand, AreCommands}
 use Rattle.line_forms.specs.Reading.{◌>>=◌, behind, nothing_at, word_at, before_at, both_at, map_at, name_at, has_more}

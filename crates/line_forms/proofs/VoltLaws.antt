@@ -8,7 +8,7 @@ use Rattle.std.proofs.lemmas.Bool.{eqb-false, leb-true, le-leb, ne_eqb}
 use Rattle.std.proofs.lemmas.List.{drop_more, drop_all, length-append}
 use Rattle.std.proofs.lemmas.Str.{digit_value_digit}
 use Rattle.std.proofs.lemmas.Str.Parse.{digit_from_value}
-use Rattle.base_defs.specs.Volts.{is_point, decimals_of, IsVolts}
+use Rattle.text_defs.specs.Volts.{is_point, decimals_of, IsVolts}
 use Rattle.line_forms.specs.Reading.{◌>>=◌}
 use Rattle.line_forms.specs.ScriptReading.{number_from, unit_of, in_range, with_digits, volts_of}
 use Rattle.line_forms.proofs.Words.{let_through}

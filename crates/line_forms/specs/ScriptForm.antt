@@ -3,7 +3,7 @@ use Rattle.std.specs.Prelude.{◌≡◌, ℕ, ◌<◌, List, [], ◌∷◌, leng
 use Rattle.std.specs.List.{concat, flat_map, AllByRecursion}
 use Rattle.pw_defs.specs.declared.values.Value.{Value}
 use Rattle.pw_defs.specs.declared.values.Value.TheVariants.{Off, On}
-use Rattle.base_defs.specs.Volts.{IsVolts}
+use Rattle.text_defs.specs.Volts.{IsVolts}
 use Rattle.line_forms.specs.Names.{IsId}
 use Rattle.line_forms.specs.Lines.{line}
 use Rattle.line_forms.specs.declared.script_lines.StateWords.{StateWords}

@@ -5,7 +5,7 @@ use Rattle.std.specs.List.{position_or_len, before_first}
 use Rattle.std.specs.Str.{bytes_eq}
 use Rattle.pw_defs.specs.declared.values.Value.{Value}
 use Rattle.pw_defs.specs.declared.values.Value.TheVariants.{Off, On}
-use Rattle.base_defs.specs.Volts.{is_point, decimals_of}
+use Rattle.text_defs.specs.Volts.{is_point, decimals_of}
 use Rattle.line_forms.specs.Reading.{Read, ◌>>=◌, begins, nothing_at, word_at, before_at, both_at, map_at, led_at, many_at, some_at, name_at, has_more}
 use Rattle.line_forms.specs.declared.script_lines.StateWords.{StateWords}
 use Rattle.line_forms.specs.declared.script_lines.CommandLine.{CommandLine}

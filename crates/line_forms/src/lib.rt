@@ -19,6 +19,3 @@ pub use netlist_lines::{ConnWords, InstLine, ItemLine, ModuleLines, PortWords};
 pub use netlist_reader::read_netlist;
 pub use script_lines::{CommandLine, StateWords};
 pub use script_reader::read_script;
-
-#[cfg(test)]
-mod tests;

@@ -1,7 +1,7 @@
 //! Voltages as they are written.
 ghost use Rattle.std.specs.Prelude.{◌≡◌, ℕ, ◌≤◌, ◌==◌, length, take, drop, codes, IfSome};
 ghost use Rattle.std.specs.List.{position_or_len, before_first};
-ghost use Rattle.base_defs.specs.Volts.{is_point, decimals_of};
+ghost use Rattle.text_defs.specs.Volts.{is_point, decimals_of};
 ghost use Rattle.line_forms.specs.ScriptReading.{number_from, unit_of, volts_of, value_of};
 
 use pw_defs::Value;

@@ -1,1 +1,3 @@
-mod KeyLemmas
+pub mod Links
+pub mod Trees
+pub mod Found

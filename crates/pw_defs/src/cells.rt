@@ -1,7 +1,6 @@
 //! Library cells and their roles (Liberty).
 
-use crate::lists::List;
-use crate::names::Name;
+use plain_lists::{List, Name};
 
 /// Which way a port or a pin carries its signal.
 #[derive(Clone, Copy, Debug, PartialEq, Eq)]
@@ -11,14 +10,14 @@ pub enum Dir {
 }
 
 /// A pin of a cell.
-#[derive(Drop)]
+#[derive(Clone, Drop, PartialEq, Eq)]
 pub struct Pin {
     pub name: Name,
     pub dir: Dir,
 }
 
 /// A library cell. `through` is the pin that an isolation cell or level shifter passes on, `enable` its enable pin.
-#[derive(Drop)]
+#[derive(Clone, Drop, PartialEq, Eq)]
 pub struct Cell {
     pub name: Name,
     pub pins: List<Pin>,
@@ -31,7 +30,7 @@ pub struct Cell {
 }
 
 /// The cells of the libraries.
-#[derive(Drop)]
+#[derive(Clone, Drop)]
 pub struct Cells {
     pub cells: List<Cell>,
 }

@@ -3,9 +3,8 @@
 use crate::conditions::Cond;
 use crate::design::{Feeder, PortBit};
 use crate::intent::SupplySet;
-use crate::lists::List;
-use crate::names::Name;
 use crate::strategies::Candidate;
+use plain_lists::{List, Name};
 
 /// What can be wrong with a chain.
 #[derive(Clone, Copy, Debug, PartialEq, Eq, PartialOrd, Ord)]
@@ -38,7 +37,7 @@ pub struct Walk {
 }
 
 /// What a chain passes on its way from the driver: a face with its candidates, or an isolation cell or shifter.
-#[derive(Drop)]
+#[derive(Clone, Drop)]
 pub enum Element {
     Face(List<Candidate>),
     Cell {
@@ -61,7 +60,7 @@ pub struct Chain {
 }
 
 /// A walk that ends at a port of the soft macro that it stands in.
-#[derive(Drop)]
+#[derive(Clone, Drop)]
 pub enum Partial {
     Drive {
         bit: Name,

@@ -1,10 +1,9 @@
 //! An elaborated design: its instances and bits, and what feeds each bit.
 
 use crate::cells::Cells;
-use crate::lists::List;
 use crate::model::Model;
-use crate::names::Name;
 use crate::netlist::Module;
+use plain_lists::{List, Name};
 
 /// What an instance is an instance of.
 #[derive(Clone, Copy, Debug, PartialEq, Eq)]

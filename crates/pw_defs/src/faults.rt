@@ -1,10 +1,6 @@
 //! What each step can answer in place of its result. A fault has the line and the name that its refusal shows.
 
-use crate::names::Name;
-
-/// Memory ran out.
-#[derive(Clone, Copy, Debug, PartialEq, Eq)]
-pub struct Memory;
+use plain_lists::Name;
 
 /// Why a text is no voltage: it has not the form, or it is above 1000 V.
 #[derive(Clone, Copy, Debug, PartialEq, Eq)]
@@ -133,13 +129,6 @@ pub enum LoadFault {
 #[derive(Clone, Copy, Debug, PartialEq, Eq)]
 pub enum ListFault {
     Bound,
-    Memory,
-}
-
-/// Why a set of states isn't made: the pool has as many nodes as its bound.
-#[derive(Clone, Copy, Debug, PartialEq, Eq)]
-pub enum DiagFault {
-    Bound { nodes: u32 },
     Memory,
 }
 

@@ -2,11 +2,10 @@
 
 use crate::conditions::UnitCond;
 use crate::design::PortBit;
-use crate::lists::List;
-use crate::names::Name;
 use crate::strategies::Strategy;
 use crate::supplies::Supply;
 use crate::values::Value;
+use plain_lists::{List, Name};
 
 /// A supply set, by the numbers of its supplies.
 #[derive(Clone, Copy, Debug, PartialEq, Eq, Hash)]
@@ -33,7 +32,7 @@ pub struct Unit {
 }
 
 /// A supply set that a soft macro shows to the outside.
-#[derive(Drop)]
+#[derive(Clone, Drop)]
 pub struct Export {
     pub name: Name,
     pub set: SupplySet,

@@ -6,17 +6,14 @@
 //! say in their contracts what holds of them.
 #![tactic(auto)]
 
-mod bytes;
 mod cells;
 mod chains;
 mod conditions;
 mod design;
 mod faults;
 mod intent;
-mod lists;
 mod memory;
 mod model;
-mod names;
 mod netlist;
 mod report;
 mod script;
@@ -26,21 +23,19 @@ mod supplies;
 mod terms;
 mod values;
 
-pub use bytes::Bytes;
 pub use cells::{Cell, Cells, Dir, Pin};
 pub use chains::{Chain, Crossings, Element, Kind, Partial, Sense, Walk, Watch};
-pub use conditions::{Cond, UnitCond};
+pub use conditions::{Cond, UnitCond, copy_cond, copy_conds};
 pub use design::{Bit, Body, Design, Feeder, Instance, Named, PortBit};
 pub use faults::{
-    At, AtModule, CheckFault, CmdFault, Code, DesignFault, DiagFault, DomainFault, LibFault,
-    ListFault, LoadFault, Memory, MergeFault, ModelFault, NetFault, Refusal, SupplyFault, TclFault,
-    TermFault, VoltFault,
+    At, AtModule, CheckFault, CmdFault, Code, DesignFault, DomainFault, LibFault, ListFault,
+    LoadFault, MergeFault, ModelFault, NetFault, Refusal, SupplyFault, TclFault, TermFault,
+    VoltFault,
 };
 pub use intent::{CellSet, Domain, Export, Face, Intent, PortSet, RootList, SupplySet, Unit, Want};
-pub use lists::List;
-pub use model::{Kept, KeptNode, KeptWatch, Made, Make, Model, ModelSupply, OutPort, Place};
-pub use names::Name;
+pub use model::{KeptWatch, Made, Make, Model, ModelSupply, OutPort};
 pub use netlist::{Assign, Conn, Expr, Inst, Module, Net, Port};
+pub use plain_lists::{Bytes, DiagFault, Kept, KeptNode, List, Memory, Name, Place};
 pub use report::{Boundary, Finding, Report};
 pub use script::{Command, Given, Line, Options};
 pub use sqlite_items::Boxed;
@@ -48,4 +43,4 @@ pub use status::Status;
 pub use strategies::{Act, Candidate, Choice, Filter, Mode, Strategy, Tool};
 pub use supplies::{Said, Supply, SupplyKind, SwitchText};
 pub use terms::{NamedState, Term, TermNames};
-pub use values::{State, Value, compare_values};
+pub use values::{State, Value, compare_values, exceeds};

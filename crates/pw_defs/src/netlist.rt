@@ -1,11 +1,10 @@
 //! Modules as a structural netlist declares them (IEEE 1364).
 
 use crate::cells::Dir;
-use crate::lists::List;
-use crate::names::Name;
+use plain_lists::{List, Name};
 
 /// A port in the order of the header. `range` is that of a vector, its left end first.
-#[derive(Drop)]
+#[derive(Clone, Drop, PartialEq, Eq)]
 pub struct Port {
     pub name: Name,
     pub dir: Dir,
@@ -13,7 +12,7 @@ pub struct Port {
 }
 
 /// A declared wire.
-#[derive(Drop)]
+#[derive(Clone, Drop)]
 pub struct Net {
     pub name: Name,
     pub range: Option<(u32, u32)>,

@@ -1,9 +1,8 @@
 //! What a check finds.
 
 use crate::chains::Kind;
-use crate::lists::List;
-use crate::names::Name;
 use crate::values::{State, Value};
+use plain_lists::{List, Name};
 
 /// A finding on a chain. `witness` has a value for each visible supply.
 #[derive(Drop)]

@@ -1,8 +1,6 @@
 //! Scripts as words, and commands with their options.
 
-use crate::bytes::Bytes;
-use crate::lists::List;
-use crate::names::Name;
+use plain_lists::{Bytes, List, Name};
 
 /// The words of a command, at the line where it begins.
 #[derive(Drop)]
@@ -12,7 +10,7 @@ pub struct Line {
 }
 
 /// An option that was given, with its value.
-#[derive(Drop)]
+#[derive(Clone, Drop, PartialEq, Eq)]
 pub struct Given {
     pub option: Name,
     pub value: Bytes,

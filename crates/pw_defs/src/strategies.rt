@@ -2,7 +2,7 @@
 
 use crate::design::Named;
 use crate::intent::SupplySet;
-use crate::lists::List;
+use plain_lists::List;
 
 /// What a strategy puts in: isolation cells, or level shifters.
 #[derive(Clone, Copy, Debug, PartialEq, Eq)]

@@ -1,8 +1,7 @@
 //! The supply network.
 
-use crate::lists::List;
-use crate::names::Name;
 use crate::values::Value;
+use plain_lists::{List, Name};
 
 /// What kind of supply it is. `Kept` is an interface supply of a model.
 #[derive(Clone, Copy, Debug, PartialEq, Eq)]

@@ -1,9 +1,8 @@
 //! Expressions of power states, and what their names stand for.
 
 use crate::conditions::Cond;
-use crate::lists::List;
-use crate::names::Name;
 use crate::values::Value;
+use plain_lists::{List, Name};
 use sqlite_items::Boxed;
 
 /// A supply or logic expression. `Volt` is a value of the set's power or ground, `On` that it is on at any voltage.

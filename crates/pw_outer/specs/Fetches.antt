@@ -1,6 +1,6 @@
 -- What a fetch answers and leaves.
 use Rattle.std.specs.Prelude.{◌≡◌, ℕ, ◌+◌, ◌<◌, ◌≤◌, List, [], ◌∷◌, length, take, Option, None, Some, Result, Ok, Err, IsSomeAnd, unwrap_or, if◌then◌else◌, ⊤}
-use Rattle.base_defs.specs.Members.{same_name}
+use Rattle.list_defs.specs.Members.{same_name}
 use Rattle.pw_outer.specs.Counts.{Counts, Rose, raised}
 use Rattle.pw_outer.specs.declared.shelves.TheConstants.{LONGEST_FILE}
 use Rattle.pw_outer.specs.declared.shelves.ShelfFault.{ShelfFault}

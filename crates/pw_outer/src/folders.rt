@@ -7,7 +7,7 @@ ghost use Rattle.pw_outer.specs.Fetches.{Fetched, HasFetchCause, LeavesBytes, co
 
 use crate::MOST_TRIES;
 use crate::shelves::{LONGEST_FILE, Shelf, ShelfFault};
-use pw_defs::Memory;
+use plain_lists::Memory;
 use std::alloc::Global;
 use std::io::{ErrorKind, Read};
 use std::marker::Model;

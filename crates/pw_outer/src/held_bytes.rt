@@ -1,12 +1,12 @@
 //! Sinks whose bytes are kept in memory.
 ghost use Rattle.std.specs.Prelude.{◌≡◌, [], true, None, Some, map, ◌==◌};
-ghost use Rattle.base_defs.specs.Members.{all_differ};
+ghost use Rattle.list_defs.specs.Members.{all_differ};
 ghost use Rattle.pw_outer.specs.Counts.{raised};
 ghost use Rattle.pw_outer.specs.Puts.{Took, faults_after};
 ghost use Rattle.pw_outer.specs.Kinds.{TookBefore, failure_of};
 
 use crate::sinks::{PutFault, Sink};
-use pw_defs::List;
+use plain_lists::List;
 use std::alloc::Global;
 use std::marker::Model;
 

@@ -1,13 +1,13 @@
 //! Shelves whose files are kept in memory.
 ghost use Rattle.std.specs.Prelude.{◌≡◌, ◌≢◌, ◌∷◌, [], Bool, true, Some, Err, map, MatchBool, length};
 ghost use Rattle.std.specs.Option.{option_copied};
-ghost use Rattle.base_defs.specs.Members.{all_differ, same_name};
+ghost use Rattle.list_defs.specs.Members.{all_differ, same_name};
 ghost use Rattle.pw_outer.specs.Counts.{raised};
 ghost use Rattle.pw_outer.specs.Fetches.{Fetched, LeavesBytes, counts_after, file_named};
 ghost use Rattle.pw_outer.specs.Kinds.{is_listed, counts_of, counts_of_failing};
 
 use crate::shelves::{LONGEST_FILE, Shelf, ShelfFault};
-use pw_defs::{Bytes, List, Name};
+use plain_lists::{Bytes, List, Name};
 use std::alloc::Global;
 use std::marker::Model;
 

@@ -21,6 +21,3 @@ pub use streams::StreamSink;
 
 /// How often a read or a write that is interrupted is tried before it counts as failed.
 const MOST_TRIES: u32 = 1000;
-
-#[cfg(test)]
-mod tests;

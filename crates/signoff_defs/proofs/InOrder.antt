@@ -1,15 +1,14 @@
 -- A list is put in order in one way.
-use Rattle.std.proofs.Common.{◌≡◌, ℕ, suc, ◌+◌, Bool, true, false, not, ◌&&◌, List, [], ◌∷◌, length, filter, refl, sym, ap, subst, ◌∙◌, arith, inl, inr}
+use Rattle.std.proofs.Common.{◌≡◌, ℕ, suc, ◌+◌, Bool, true, false, List, [], ◌∷◌, filter, refl, sym, ap, subst, ◌∙◌, arith, inl, inr}
 use Rattle.std.specs.Prelude.{slice_index_or}
 use Rattle.std.specs.Cmp.{IsTotalOrder, IsStrictWeakOrder}
 use Rattle.std.specs.List.Sorted.{IsSortedBy, ties}
 use Rattle.std.specs.Ordering.{is_lt}
 use Rattle.std.specs.declared.cmp.Ordering.{Ordering}
-use Rattle.std.proofs.lemmas.Bool.{true≢false}
 use Rattle.std.proofs.lemmas.List.Sorted.{ranks_by}
-use Rattle.base_defs.specs.Members.{IsIn}
-use Rattle.base_defs.specs.Orders.{IsPutInOrder}
-use Rattle.base_defs.proofs.Members.{IsIn-filter, IsIn-filter_from}
+use Rattle.list_defs.specs.Members.{IsIn}
+use Rattle.list_defs.specs.Orders.{IsPutInOrder}
+use Rattle.list_defs.proofs.Members.{IsIn-filter, IsIn-filter_from}
 
 not_itself : {X : Type 0} (lt : X → X → Bool) → IsStrictWeakOrder lt → (x : X) → lt x x ≡ false
 not_itself lt o x = by (lt x x) refl

@@ -8,7 +8,7 @@ use Rattle.pw_defs.specs.declared.report.Finding.{Finding}
 use Rattle.pw_defs.specs.declared.report.Report.{Report}
 use Rattle.pw_defs.specs.declared.values.State.{State}
 use Rattle.pw_defs.specs.declared.values.Value.{Value}
-use Rattle.base_defs.specs.Text.{value_text}
+use Rattle.text_defs.specs.Text.{value_text}
 
 abbrev pub kind_text : Kind → List ℕ
 kind_text IsoMissing = codes "ISO_MISSING"

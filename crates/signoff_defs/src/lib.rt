@@ -1,2 +1,3 @@
-//! Definitions of what a check watches, finds and reports. It has no code.
+//! Definitions of chains with their sets, what is watched on them, the order of supply roots, witnesses, findings and the
+//! report with its text. It has no code.
 #![tactic(auto)]

@@ -1,4 +1,5 @@
 pub mod Entering
+pub mod Joining
 pub mod Lowering
 pub mod Pairing
 pub mod Singles

@@ -5,15 +5,16 @@ use Rattle.std.proofs.lemmas.List.{get_or-drop, get_or-map, length-map}
 use Rattle.pw_defs.specs.declared.values.Value.{Value}
 use Rattle.pw_defs.specs.declared.values.Value.TheVariants.{Off, On}
 use Rattle.pw_defs.specs.declared.conditions.Cond.TheVariants.{Apart}
-use Rattle.intent_defs.specs.Conditions.{exceeds}
-use Rattle.intent_defs.proofs.Meaning.{holds_apart}
+use Rattle.pw_defs.specs.Values.{exceeds}
+use Rattle.supply_defs.proofs.Meaning.{holds_apart}
 use Rattle.diagram_defs.specs.Rests.{is_rest}
 use Rattle.state_build.specs.declared.levels.Side.{Side}
 use Rattle.state_build.specs.declared.levels.Side.TheVariants.{Above, Below}
 use Rattle.state_build.specs.declared.levels.ValueTest.TheVariants.{Far}
 use Rattle.state_build.specs.Built.{value_at, value_of, built_set}
 use Rattle.state_build.specs.ValueTests.{is_far, passing_set, pair_set, apart_set}
-use Rattle.state_build.proofs.Tested.{and_none, tested_behind}
+use Rattle.std.proofs.Math.Bool.{and-false}
+use Rattle.state_build.proofs.Tested.{tested_behind}
 
 -- how many values a level has
 pub arity_at : (lists : List (List Value)) (arities : List ℕ) (level : ℕ) → map length lists ≡ arities → level < length lists → length (get_or lists level []) ≡ get_or arities level 0
@@ -62,4 +63,4 @@ module _ (arities : List ℕ) (lists : List (List Value)) (low high above : ℕ)
   pub apart_none : low ≡ high → built_set arities lists (Apart low high above) state ≡ false
   apart_none same =
       ap (λ (b : Bool). is_rest arities state && b) (holds_apart (value_of lists state) low high above ∙ ap (λ (h : ℕ). exceeds (value_of lists state low) (value_of lists state h) above) (sym same) ∙ exceeds_itself (value_of lists state low) above)
-      ∙ and_none (is_rest arities state)
+      ∙ and-false (is_rest arities state)

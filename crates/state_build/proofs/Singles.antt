@@ -4,7 +4,7 @@ use Rattle.std.proofs.lemmas.List.{get_or_default, get_or-drop}
 use Rattle.pw_defs.specs.declared.values.Value.{Value}
 use Rattle.pw_defs.specs.declared.values.Value.TheVariants.{Off}
 use Rattle.pw_defs.specs.declared.conditions.Cond.TheVariants.{Is, On}
-use Rattle.intent_defs.proofs.Meaning.{holds_is, holds_on}
+use Rattle.supply_defs.proofs.Meaning.{holds_is, holds_on}
 use Rattle.diagram_defs.specs.Rests.{is_rest}
 use Rattle.diagram_defs.specs.Diagrams.{Diagram, IsPool}
 use Rattle.diagram_defs.specs.Sets.{widened_set}

@@ -9,15 +9,8 @@ use Rattle.diagram_defs.specs.Parts.{IsPartOf}
 use Rattle.diagram_defs.proofs.Listed.{is_rest-drop}
 use Rattle.diagram_defs.proofs.PartLemmas.{IsPartOf_same, IsPartOf_grown}
 use Rattle.diagram_defs.proofs.Steps.{rest_behind}
-use Rattle.state_diagrams.proofs.Levels.{widened_up, widened_itself}
-
-pub and_none : (m : Bool) → (m && false) ≡ false
-and_none true = refl
-and_none false = refl
-
-pub and_true : (m : Bool) → (m && true) ≡ m
-and_true true = refl
-and_true false = refl
+use Rattle.diagram_defs.proofs.Guards.{guards_second}
+use Rattle.diagram_defs.proofs.Widened.{widened_up, widened_itself}
 
 abbrev pub tested : List ℕ → ℕ → (List ℕ → Bool) → List ℕ → Bool
 tested arities level test rest = is_rest (drop level arities) rest && test rest
@@ -30,17 +23,13 @@ pub tested_behind : (arities : List ℕ) (level v : ℕ) (test : List ℕ → Bo
 tested_behind arities level v test rest inside low =
     ap (λ (m : Bool). m && test (v ∷ rest)) (sym (rest_behind arities level inside v rest low))
 
-pub guard : (a b c d : Bool) → (a ≡ true → b ≡ true) → c ≡ d → (a && (b && c)) ≡ (a && d)
-guard true b c d h e = ap (λ (m : Bool). m && c) (h refl) ∙ e
-guard false b c d h e = refl
-
 -- any values of the levels before
 module _ (old : Diagram) (pool : IsPool old) (level from : ℕ) (order : level ≤ from) (fits : from ≤ length old.arities) (test wide : List ℕ → Bool) (agree : (rest : List ℕ) → test (drop (from - level) rest) ≡ wide rest) where
   pub tested_widened : (rest : List ℕ) → widened_set old level from (tested old.arities from test) rest ≡ tested old.arities level wide rest
   tested_widened rest =
       let place : level + (from - level) ≡ from = omega arith in
       let end = drop-drop (from - level) level old.arities ∙ ap (λ (k : ℕ). drop k old.arities) place in
-      guard (is_rest (drop level old.arities) rest) (is_rest (drop from old.arities) (drop (from - level) rest)) _ _ (λ e. ap (λ (as' : List ℕ). is_rest as' (drop (from - level) rest)) (sym end) ∙ is_rest-drop (from - level) (drop level old.arities) rest e) (agree rest)
+      guards_second (is_rest (drop level old.arities) rest) (is_rest (drop from old.arities) (drop (from - level) rest)) _ _ (λ e. ap (λ (as' : List ℕ). is_rest as' (drop (from - level) rest)) (sym end) ∙ is_rest-drop (from - level) (drop level old.arities) rest e) (agree rest)
 
   pub tested_parts : (l : ℕ) (part : List ℕ → Bool) → IsPartOf (length old.arities) from (tested old.arities from test) l part → IsPartOf (length old.arities) level (tested old.arities level wide) l part
   tested_parts l part p =

@@ -1,4 +1,5 @@
 pub mod Built
 pub mod Entries
 pub mod Held
+pub mod Joined
 pub mod ValueTests

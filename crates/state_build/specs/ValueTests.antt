@@ -2,7 +2,7 @@
 use Rattle.std.specs.Prelude.{ℕ, ◌-◌, Bool, ◌&&◌, List, drop, slice_index, slice_index_or}
 use Rattle.pw_defs.specs.declared.values.Value.{Value}
 use Rattle.pw_defs.specs.declared.values.Value.TheVariants.{Off}
-use Rattle.intent_defs.specs.Conditions.{is_on, same_value, exceeds}
+use Rattle.pw_defs.specs.Values.{is_on, same_value, exceeds}
 use Rattle.diagram_defs.specs.Rests.{is_rest}
 use Rattle.state_build.specs.declared.levels.Side.{Side}
 use Rattle.state_build.specs.declared.levels.Side.TheVariants.{Above, Below}

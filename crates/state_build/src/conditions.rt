@@ -2,27 +2,28 @@
 
 ghost use Rattle.std.specs.Prelude.{◌≡◌, ◌<◌, true, map, IfOk, IfErr, length};
 ghost use Rattle.std.specs.List.{list_all};
-ghost use Rattle.pw_defs.specs.declared.conditions.Cond.TheVariants.{Is, On, Not, All, Any};
-ghost use Rattle.intent_defs.specs.Conditions.{speaks_below};
+ghost use Rattle.pw_defs.specs.declared.conditions.Cond.TheVariants.{Is, On, Not};
+ghost use Rattle.supply_defs.specs.Conditions.{speaks_below};
 ghost use Rattle.diagram_defs.specs.Diagrams.{IsNumberFor};
 ghost use Rattle.diagram_defs.specs.Parts.{GrowsBy, IsPartOf};
 ghost use Rattle.diagram_defs.specs.Answers.{IsCause};
-ghost use Rattle.state_build.specs.Built.{built_set};
+ghost use Rattle.state_build.specs.Built.{built_set, joined_cond};
 ghost use Rattle.state_build.specs.Entries.{IsPartOfEntry};
-ghost use Rattle.state_build.specs.Held.{IsLocalFor};
+ghost use Rattle.diagram_defs.specs.Locals.{IsLocalFor};
 
 use crate::levels::{ValueTest, chosen};
-use crate::locals::{Local, aligned, everything, nothing};
+use crate::locals::{everything, gathered};
 use crate::pairs::apart;
+use diagram_defs::{Local, Quantifier};
 use pw_defs::{Cond, DiagFault, List, Value};
 use state_diagrams::Pool;
 
 /// The number of the whole states at which the condition holds, by the values that their indices stand for. There is
 /// a list of values for each level, and the condition's supplies are levels. A condition inside is built from the
-/// least supply on that it speaks of, and gets any values of the supplies before only where it is joined with another.
+/// least supply on that it speaks of, and all parts of an `All` or an `Any` are joined at once.
 ///
-/// `Bound` comes only where the table is full and one of these has no node: a part of the condition's set, of the set
-/// of a condition inside it, or of the first ones of an `All` or an `Any`.
+/// `Bound` comes only where the table is full and one of these has no node: a part of the condition's set, or of the
+/// set of a condition inside it.
 pub fn build(pool: &mut Pool, lists: &[List<Value>], cond: &Cond) -> Result<u32, DiagFault>
     requires lists { map length lists.now ≡ pool.old.arities }
     requires levels { speaks_below (length lists.now) cond.now ≡ true }
@@ -36,10 +37,10 @@ pub fn build(pool: &mut Pool, lists: &[List<Value>], cond: &Cond) -> Result<u32,
 
 /// The whole states at which a condition holds, by the values from the least supply on that it speaks of.
 #[cycle(local_of)]
-fn local_of(pool: &mut Pool, lists: &[List<Value>], cond: &Cond) -> Result<Local, DiagFault>
+pub fn local_of(pool: &mut Pool, lists: &[List<Value>], cond: &Cond) -> Result<Local, DiagFault>
     requires lists { map length lists.now ≡ pool.old.arities }
     requires levels { speaks_below (length lists.now) cond.now ≡ true }
-    ensures number { IfOk result (λ local. IsLocalFor pool.new (built_set pool.old.arities lists.now cond.now) local.level local.number) }
+    ensures number { IfOk result (λ local. IsLocalFor pool.new (built_set pool.old.arities lists.now cond.now) local) }
     ensures grows { GrowsBy (IsPartOfEntry pool.old.arities lists.now cond.now) pool.old pool.new }
     ensures cause { IfErr result (IsCause pool.new (IsPartOfEntry pool.old.arities lists.now cond.now)) }
 {
@@ -49,8 +50,8 @@ fn local_of(pool: &mut Pool, lists: &[List<Value>], cond: &Cond) -> Result<Local
         Cond::On { supply } => is_on(pool, lists, *supply),
         Cond::Apart { low, high, above } => apart(pool, lists, *low, *high, *above),
         Cond::Not(part) => negated(pool, lists, part.get()),
-        Cond::All(parts) => all_of(pool, lists, parts.as_slice()),
-        Cond::Any(parts) => any_of(pool, lists, parts.as_slice()),
+        Cond::All(parts) => joined_of(pool, lists, Quantifier::All, parts.as_slice()),
+        Cond::Any(parts) => joined_of(pool, lists, Quantifier::Any, parts.as_slice()),
     }
 }
 
@@ -63,7 +64,7 @@ fn is_at(
 ) -> Result<Local, DiagFault>
     requires lists { map length lists.now ≡ pool.old.arities }
     requires level { supply < length lists.now }
-    ensures number { IfOk result (λ local. IsLocalFor pool.new (built_set pool.old.arities lists.now (Is supply value)) local.level local.number) }
+    ensures number { IfOk result (λ local. IsLocalFor pool.new (built_set pool.old.arities lists.now (Is supply value)) local) }
     ensures grows { GrowsBy (IsPartOf (length pool.old.arities) 0 (built_set pool.old.arities lists.now (Is supply value))) pool.old pool.new }
     ensures cause { IfErr result (IsCause pool.new (IsPartOf (length pool.old.arities) 0 (built_set pool.old.arities lists.now (Is supply value)))) }
 {
@@ -77,7 +78,7 @@ fn is_at(
 fn is_on(pool: &mut Pool, lists: &[List<Value>], supply: u32) -> Result<Local, DiagFault>
     requires lists { map length lists.now ≡ pool.old.arities }
     requires level { supply < length lists.now }
-    ensures number { IfOk result (λ local. IsLocalFor pool.new (built_set pool.old.arities lists.now (On supply)) local.level local.number) }
+    ensures number { IfOk result (λ local. IsLocalFor pool.new (built_set pool.old.arities lists.now (On supply)) local) }
     ensures grows { GrowsBy (IsPartOf (length pool.old.arities) 0 (built_set pool.old.arities lists.now (On supply))) pool.old pool.new }
     ensures cause { IfErr result (IsCause pool.new (IsPartOf (length pool.old.arities) 0 (built_set pool.old.arities lists.now (On supply)))) }
 {
@@ -92,7 +93,7 @@ fn is_on(pool: &mut Pool, lists: &[List<Value>], supply: u32) -> Result<Local, D
 fn negated(pool: &mut Pool, lists: &[List<Value>], part: &Cond) -> Result<Local, DiagFault>
     requires lists { map length lists.now ≡ pool.old.arities }
     requires levels { speaks_below (length lists.now) part.now ≡ true }
-    ensures number { IfOk result (λ local. IsLocalFor pool.new (built_set pool.old.arities lists.now (Not part.now)) local.level local.number) }
+    ensures number { IfOk result (λ local. IsLocalFor pool.new (built_set pool.old.arities lists.now (Not part.now)) local) }
     ensures grows { GrowsBy (IsPartOfEntry pool.old.arities lists.now (Not part.now)) pool.old pool.new }
     ensures cause { IfErr result (IsCause pool.new (IsPartOfEntry pool.old.arities lists.now (Not part.now))) }
 {
@@ -102,42 +103,25 @@ fn negated(pool: &mut Pool, lists: &[List<Value>], part: &Cond) -> Result<Local,
     Ok(Local { level, number })
 }
 
-/// The whole states at which all of the conditions hold.
+/// The whole states at which all of the conditions hold, or any of them. One walk over the sets of all finds them, so
+/// that no set of the first ones alone is made.
 #[cycle(local_of)]
-fn all_of(pool: &mut Pool, lists: &[List<Value>], parts: &[Cond]) -> Result<Local, DiagFault>
+fn joined_of(
+    pool: &mut Pool,
+    lists: &[List<Value>],
+    which: Quantifier,
+    parts: &[Cond],
+) -> Result<Local, DiagFault>
     requires lists { map length lists.now ≡ pool.old.arities }
     requires levels { list_all (speaks_below (length lists.now)) parts.now ≡ true }
-    ensures number { IfOk result (λ local. IsLocalFor pool.new (built_set pool.old.arities lists.now (All parts.now)) local.level local.number) }
-    ensures grows { GrowsBy (IsPartOfEntry pool.old.arities lists.now (All parts.now)) pool.old pool.new }
-    ensures cause { IfErr result (IsCause pool.new (IsPartOfEntry pool.old.arities lists.now (All parts.now))) }
+    ensures number { IfOk result (λ local. IsLocalFor pool.new (built_set pool.old.arities lists.now (joined_cond which parts.now)) local) }
+    ensures grows { GrowsBy (IsPartOfEntry pool.old.arities lists.now (joined_cond which parts.now)) pool.old pool.new }
+    ensures cause { IfErr result (IsCause pool.new (IsPartOfEntry pool.old.arities lists.now (joined_cond which parts.now))) }
 {
-    let mut joined = everything(pool);
+    let mut sets = Vec::new(pool.allocator());
     for part in parts {
         let set = local_of(pool, lists, part)?;
-        let pair = aligned(pool, joined, set)?;
-        let number = pool.and(pair.first, pair.second)?;
-        let level = pair.level;
-        joined = Local { level, number };
+        sets.push(set)?;
     }
-    Ok(joined)
-}
-
-/// The whole states at which one of the conditions holds.
-#[cycle(local_of)]
-fn any_of(pool: &mut Pool, lists: &[List<Value>], parts: &[Cond]) -> Result<Local, DiagFault>
-    requires lists { map length lists.now ≡ pool.old.arities }
-    requires levels { list_all (speaks_below (length lists.now)) parts.now ≡ true }
-    ensures number { IfOk result (λ local. IsLocalFor pool.new (built_set pool.old.arities lists.now (Any parts.now)) local.level local.number) }
-    ensures grows { GrowsBy (IsPartOfEntry pool.old.arities lists.now (Any parts.now)) pool.old pool.new }
-    ensures cause { IfErr result (IsCause pool.new (IsPartOfEntry pool.old.arities lists.now (Any parts.now))) }
-{
-    let mut joined = nothing(pool);
-    for part in parts {
-        let set = local_of(pool, lists, part)?;
-        let pair = aligned(pool, joined, set)?;
-        let number = pool.or(pair.first, pair.second)?;
-        let level = pair.level;
-        joined = Local { level, number };
-    }
-    Ok(joined)
+    gathered(pool, which, sets.as_slice())
 }

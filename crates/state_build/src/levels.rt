@@ -1,7 +1,7 @@
 //! Sets of rests by the value at one level.
 
 ghost use Rattle.std.specs.Prelude.{◌≡◌, ◌≤◌, ◌<◌, IfOk, IfErr, length, slice_index};
-ghost use Rattle.intent_defs.specs.Conditions.{exceeds};
+ghost use Rattle.pw_defs.specs.Values.{exceeds};
 ghost use Rattle.diagram_defs.specs.Diagrams.{IsNumberFor};
 ghost use Rattle.diagram_defs.specs.Parts.{GrowsBy, IsPartOf};
 ghost use Rattle.diagram_defs.specs.Answers.{IsCause};

@@ -5,7 +5,5 @@ mod conditions;
 mod levels;
 mod locals;
 mod pairs;
-#[cfg(test)]
-mod tests;
 
-pub use conditions::build;
+pub use conditions::{build, local_of};

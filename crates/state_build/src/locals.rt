@@ -1,32 +1,24 @@
 //! Sets of whole states that the values from some level on decide.
 
-ghost use Rattle.std.specs.Prelude.{◌≤◌, IfOk, IfErr, length};
-ghost use Rattle.diagram_defs.specs.Diagrams.{IsPool, IsSet};
-ghost use Rattle.diagram_defs.specs.Parts.{GrowsBy};
-ghost use Rattle.diagram_defs.specs.Answers.{IsCause};
-ghost use Rattle.state_build.specs.Held.{IsLocalFor, IsPartOfOne, all_states, no_states, states_from};
+ghost use Rattle.std.specs.Prelude.{length};
+ghost use Rattle.diagram_defs.specs.Diagrams.{IsPool};
+ghost use Rattle.diagram_defs.specs.Parts.{IsPartOf};
+ghost use Rattle.diagram_defs.specs.Answers.{IsCause, Yields};
+ghost use Rattle.diagram_defs.specs.Locals.{AreLocals, IsLocalFor};
+ghost use Rattle.state_meets.specs.Gathered.{gathered_set};
+ghost use Rattle.state_build.specs.Held.{all_states, no_states};
 
+use diagram_defs::{Local, Quantifier};
 use pw_defs::DiagFault;
 use state_diagrams::Pool;
+use state_meets::{GatherFault, gather};
 
-/// The whole states whose rest of a level is in the set of a number.
-#[derive(Clone, Copy)]
-pub(crate) struct Local {
-    pub(crate) level: u32,
-    pub(crate) number: u32,
-}
-
-/// Two sets of rests of one level.
-#[derive(Clone, Copy)]
-pub(crate) struct Pair {
-    pub(crate) level: u32,
-    pub(crate) first: u32,
-    pub(crate) second: u32,
-}
+/// How many tuples of numbers a walk may remember: twice as many as a table may have nodes.
+const MAX_TUPLES: u32 = 2_097_152;
 
 /// All whole states.
 pub(crate) fn everything(pool: &Pool) -> Local
-    ensures number { IsLocalFor pool.now (all_states pool.now.arities) result.level result.number }
+    ensures number { IsLocalFor pool.now (all_states pool.now.arities) result }
     ensures pool { IsPool pool.now }
 {
     let _count = pool.nodes();
@@ -36,7 +28,7 @@ pub(crate) fn everything(pool: &Pool) -> Local
 
 /// No whole states.
 pub(crate) fn nothing(pool: &Pool) -> Local
-    ensures number { IsLocalFor pool.now no_states result.level result.number }
+    ensures number { IsLocalFor pool.now no_states result }
     ensures pool { IsPool pool.now }
 {
     let _count = pool.nodes();
@@ -44,24 +36,21 @@ pub(crate) fn nothing(pool: &Pool) -> Local
     Local { level, number: 0 }
 }
 
-/// Both sets from the lower one of their levels on.
-pub(crate) fn aligned(pool: &mut Pool, a: Local, b: Local) -> Result<Pair, DiagFault>
-    requires first_in { a.level ≤ length pool.old.arities }
-    requires first { IsSet pool.old a.level a.number }
-    requires second_in { b.level ≤ length pool.old.arities }
-    requires second { IsSet pool.old b.level b.number }
-    ensures first { IfOk result (λ pair. IsLocalFor pool.new (states_from pool.old a.level a.number) pair.level pair.first) }
-    ensures second { IfOk result (λ pair. IsLocalFor pool.new (states_from pool.old b.level b.number) pair.level pair.second) }
-    ensures grows { GrowsBy (IsPartOfOne (length pool.old.arities) (states_from pool.old a.level a.number) (states_from pool.old b.level b.number)) pool.old pool.new }
-    ensures cause { IfErr result (IsCause pool.new (IsPartOfOne (length pool.old.arities) (states_from pool.old a.level a.number) (states_from pool.old b.level b.number))) }
+/// The whole states that are in all of the sets, or in any of them. Where one walk would remember too much, memory is
+/// said to have run out.
+pub(crate) fn gathered(
+    pool: &mut Pool,
+    which: Quantifier,
+    sets: &[Local],
+) -> Result<Local, DiagFault>
+    requires { AreLocals pool.old sets.now }
+    ensures { let set = gathered_set pool.old which sets.now in
+        let Allowed = IsPartOf (length pool.old.arities) 0 set in
+        Yields Allowed pool.old pool.new (IsLocalFor pool.new set) (IsCause pool.new Allowed) result }
 {
-    let level = a.level.min(b.level);
-    let first = pool.widen(level, a.level, a.number)?;
-    let second = pool.widen(level, b.level, b.number)?;
-    let pair = Pair {
-        level,
-        first,
-        second,
-    };
-    Ok(pair)
+    match gather(pool, which, sets, MAX_TUPLES) {
+        Ok(local) => Ok(local),
+        Err(GatherFault::Table(fault)) => Err(fault),
+        Err(GatherFault::GivenUp) => Err(DiagFault::Memory),
+    }
 }

@@ -6,11 +6,12 @@ ghost use Rattle.diagram_defs.specs.Diagrams.{AreKidsFor};
 ghost use Rattle.diagram_defs.specs.Parts.{GrowsBy, IsPartOf};
 ghost use Rattle.diagram_defs.specs.Answers.{IsCause};
 ghost use Rattle.state_build.specs.Built.{built_set};
-ghost use Rattle.state_build.specs.Held.{IsLocalFor};
+ghost use Rattle.diagram_defs.specs.Locals.{IsLocalFor};
 ghost use Rattle.state_build.specs.ValueTests.{pair_set, apart_set};
 
 use crate::levels::{Side, ValueTest, passing};
-use crate::locals::{Local, nothing};
+use crate::locals::nothing;
+use diagram_defs::Local;
 use pw_defs::{DiagFault, List, Value};
 use state_diagrams::Pool;
 use std::cmp::Ordering;
@@ -26,7 +27,7 @@ pub(crate) fn apart(
     requires lists { map length lists.now ≡ pool.old.arities }
     requires low { low < length lists.now }
     requires high { high < length lists.now }
-    ensures number { IfOk result (λ local. IsLocalFor pool.new (built_set pool.old.arities lists.now (Apart low high above)) local.level local.number) }
+    ensures number { IfOk result (λ local. IsLocalFor pool.new (built_set pool.old.arities lists.now (Apart low high above)) local) }
     ensures grows { GrowsBy (IsPartOf (length pool.old.arities) 0 (built_set pool.old.arities lists.now (Apart low high above))) pool.old pool.new }
     ensures cause { IfErr result (IsCause pool.new (IsPartOf (length pool.old.arities) 0 (built_set pool.old.arities lists.now (Apart low high above)))) }
 {
@@ -49,7 +50,7 @@ fn pairs(
     requires lists { map length lists.now ≡ pool.old.arities }
     requires order { first < second }
     requires level_in { second < length lists.now }
-    ensures number { IfOk result (λ local. IsLocalFor pool.new (apart_set pool.old.arities lists.now first second side by) local.level local.number) }
+    ensures number { IfOk result (λ local. IsLocalFor pool.new (apart_set pool.old.arities lists.now first second side by) local) }
     ensures grows { GrowsBy (IsPartOf (length pool.old.arities) 0 (apart_set pool.old.arities lists.now first second side by)) pool.old pool.new }
     ensures cause { IfErr result (IsCause pool.new (IsPartOf (length pool.old.arities) 0 (apart_set pool.old.arities lists.now first second side by))) }
 {

@@ -1,21 +1,22 @@
 -- The set that has behind each value of a level the set of a number.
-use Rattle.std.proofs.Common.{◌≡◌, ◌≢◌, ℕ, ◌+◌, ◌-◌, ◌<◌, Bool, true, List, [], ◌∷◌, Some, length, get_or, refl, sym, ap, ◌∙◌, subst, inl, inr, arith, Result, Ok, Err, IfOk, IfErr, OnErr}
+use Rattle.std.proofs.Common.{◌≡◌, ◌≢◌, ℕ, ◌+◌, ◌-◌, ◌<◌, Bool, true, List, [], ◌∷◌, Option, Some, None, MatchOption, length, get_or, refl, sym, ap, ◌∙◌, subst, inl, inr, arith, Result, Ok, Err, IfOk, IfErr, OnErr}
 use Rattle.std.specs.List.{slice_get}
+use Rattle.std.specs.Option.{IfSome}
 use Rattle.std.proofs.lemmas.List.{get_or_past}
 use Rattle.std.proofs.lemmas.Bool.{cases_lt, ne_eqb, false≢true}
 use Rattle.std.proofs.lemmas.Option.{slice_get_within}
-use Rattle.pw_defs.specs.declared.faults.DiagFault.{DiagFault}
-use Rattle.pw_defs.specs.declared.faults.DiagFault.TheVariants.{Bound, Memory}
+use Rattle.plain_lists.specs.declared.faults.DiagFault.{DiagFault}
+use Rattle.plain_lists.specs.declared.faults.DiagFault.TheVariants.{Bound, Memory}
 use Rattle.diagram_defs.specs.Diagrams.{Shape, Diagram, member, HasKid, AreKids, IsPool, IsSet, IsNumberFor, Grows}
 use Rattle.diagram_defs.specs.Diagrams.IsKid.{empty, node}
 use Rattle.diagram_defs.specs.Sets.{case_set}
-use Rattle.diagram_defs.specs.Parts.{AddsParts, GrowsBy, IsPartOf}
-use Rattle.diagram_defs.specs.Answers.{IsCause}
+use Rattle.diagram_defs.specs.Parts.{AddsParts, IsPartOf}
+use Rattle.diagram_defs.specs.Answers.{IsCause, MakesSet}
 use Rattle.diagram_defs.proofs.Meaning.{kid-node, member-empty}
-use Rattle.diagram_defs.proofs.Growth.{member_grows}
+use Rattle.diagram_defs.proofs.Growth.{member_grows, Grows_refl}
 use Rattle.diagram_defs.proofs.Canonical.{inhabited, has_shape}
 use Rattle.diagram_defs.proofs.PartLemmas.{IsPartOf_itself, AddsParts_none}
-use Rattle.state_diagrams.specs.Nodes.{IsPut, IsRefusal, HasNoKid}
+use Rattle.state_diagrams.specs.Nodes.{IsAbsent, IsNumberOf, IsPut, IsRefusal, HasNoKid}
 use Rattle.state_diagrams.proofs.Additions.{late}
 
 -- a number of the children, also past the last
@@ -43,7 +44,7 @@ module _ (old : Diagram) (pool : IsPool old) (level : ℕ) (kids : List ℕ) (in
       let one = case_some some in
       IsPartOf_itself (length old.arities) level (case_set old.nodes kids) part inside same (one.0, same one.0 ∙ one.1)
 
-  pub case_cause : length kids ≡ get_or old.arities level 0 → HasKid kids → (fault : DiagFault) → IsRefusal old (record { level = level; kids = kids }) fault → IsCause old (IsPartOf (length old.arities) level (case_set old.nodes kids)) fault
+  case_cause : length kids ≡ get_or old.arities level 0 → HasKid kids → (fault : DiagFault) → IsRefusal old (record { level = level; kids = kids }) fault → IsCause old (IsPartOf (length old.arities) level (case_set old.nodes kids)) fault
   case_cause wide some Memory why = tt
   case_cause wide some (Bound nodes) why = record {
     counted = why.0;
@@ -74,10 +75,10 @@ module _ (old : Diagram) (pool : IsPool old) (level : ℕ) (kids : List ℕ) (in
         same (v ∷ rest) =
             ap (λ (k : ℕ). member new.nodes k rest) (kid-node new.nodes (at + 2) at (record { level = level; kids = kids }) v refl there) ∙ member_grows old new (level + 1) (get_or kids v 0) rest g (kid_is old (level + 1) kids below v)
 
-    pub case_is : (n : ℕ) → IsPut old.nodes new.nodes (record { level = level; kids = kids }) n → IsNumberFor new level (case_set old.nodes kids) n
+    case_is : (n : ℕ) → IsPut old.nodes new.nodes (record { level = level; kids = kids }) n → IsNumberFor new level (case_set old.nodes kids) n
     case_is n put = subst (IsNumberFor new level (case_set old.nodes kids)) (sym put.0.1) (case_number put.0.0 put.0.2)
 
-    pub case_adds : HasKid kids → (n : ℕ) → IsPut old.nodes new.nodes (record { level = level; kids = kids }) n → AddsParts old new (IsPartOf (length old.arities) level (case_set old.nodes kids))
+    case_adds : HasKid kids → (n : ℕ) → IsPut old.nodes new.nodes (record { level = level; kids = kids }) n → AddsParts old new (IsPartOf (length old.arities) level (case_set old.nodes kids))
     case_adds some n put = record {
       each = λ at shape there past. elim put.1 [
         | inl same ↦ let within = slice_get_within new.nodes at shape there in let size = ap length same in absurd (omega arith)
@@ -89,19 +90,18 @@ module _ (old : Diagram) (pool : IsPool old) (level : ℕ) (kids : List ℕ) (in
     }
 
     -- what an attempt to put the node leaves
-    pub case_made : (r : Result ℕ DiagFault) → IfOk r (IsPut old.nodes new.nodes (record { level = level; kids = kids })) → IfOk r (IsNumberFor new level (case_set old.nodes kids))
-    case_made (Ok n) put = case_is n put
-    case_made (Err e) put = tt
+    pub case_makes : length kids ≡ get_or old.arities level 0 → HasKid kids → (r : Result ℕ DiagFault) → IfOk r (IsPut old.nodes new.nodes (record { level = level; kids = kids })) → OnErr r (new ≡ old)
+        → IfErr r (IsRefusal old (record { level = level; kids = kids })) → MakesSet level (case_set old.nodes kids) old new r
+    case_makes wide some (Ok n) put same why = (record { grows = g; adds = case_adds some n put }, case_is n put)
+    case_makes wide some (Err e) put same why =
+        let Allowed : ℕ → (List ℕ → Bool) → Type 0 = IsPartOf (length old.arities) level (case_set old.nodes kids) in
+        let none = subst (λ (d : Diagram). AddsParts old d Allowed) (sym same) (AddsParts_none Allowed old) in
+        (record { grows = g; adds = none }, subst (λ (d : Diagram). IsCause d Allowed e) (sym same) (case_cause wide some e why))
 
-    case_added : HasKid kids → (r : Result ℕ DiagFault) → IfOk r (IsPut old.nodes new.nodes (record { level = level; kids = kids })) → OnErr r (new ≡ old) → AddsParts old new (IsPartOf (length old.arities) level (case_set old.nodes kids))
-    case_added some (Ok n) put same = case_adds some n put
-    case_added some (Err e) put same =
-        subst (λ (d : Diagram). AddsParts old d (IsPartOf (length old.arities) level (case_set old.nodes kids))) (sym same) (AddsParts_none (IsPartOf (length old.arities) level (case_set old.nodes kids)) old)
-
-    pub case_grows : HasKid kids → (r : Result ℕ DiagFault) → IfOk r (IsPut old.nodes new.nodes (record { level = level; kids = kids })) → OnErr r (new ≡ old) → GrowsBy (IsPartOf (length old.arities) level (case_set old.nodes kids)) old new
-    case_grows some r put same = record { grows = g; adds = case_added some r put same }
-
-    pub case_refused : length kids ≡ get_or old.arities level 0 → HasKid kids → (r : Result ℕ DiagFault) → OnErr r (new ≡ old) → IfErr r (IsRefusal old (record { level = level; kids = kids })) → IfErr r (IsCause new (IsPartOf (length old.arities) level (case_set old.nodes kids)))
-    case_refused wide some (Ok n) same why = tt
-    case_refused wide some (Err e) same why =
-        subst (λ (d : Diagram). IsCause d (IsPartOf (length old.arities) level (case_set old.nodes kids)) e) (sym same) (case_cause wide some e why)
+-- a number that was looked up
+pub case_found : (d : Diagram) → IsPool d → (level : ℕ) (kids : List ℕ) → level < length d.arities → AreKids d.arities d.nodes (length d.nodes) (level + 1) kids → {nodes : List Shape} → nodes ≡ d.nodes → (found : Option ℕ)
+    → MatchOption found (IsAbsent nodes (record { level = level; kids = kids })) (IsNumberOf nodes (record { level = level; kids = kids })) → IfSome found (IsNumberFor d level (case_set d.nodes kids))
+case_found d pool level kids inside below same None absent = tt
+case_found d pool level kids inside below same (Some n) number =
+    let there = subst (λ (ns : List Shape). IsNumberOf ns (record { level = level; kids = kids }) n) same number in
+    case_is d pool level kids inside below d (Grows_refl d pool) n (there, inl refl)

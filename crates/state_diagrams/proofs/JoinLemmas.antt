@@ -2,17 +2,20 @@
 use Rattle.std.proofs.Common.{◌≡◌, ◌≢◌, ℕ, ◌+◌, ◌≤◌, ◌<◌, Bool, true, false, not, ◌&&◌, ◌||◌, nat_eq, ◌⊎◌, List, [], ◌∷◌, max, Option, Some, None, MatchOption, length, get_or, refl, sym, ap, ◌∙◌, subst, inl, inr, arith, Result, Ok, Err, IfOk, IfErr}
 use Rattle.std.specs.Option.{IfSome, IfNone}
 use Rattle.std.proofs.lemmas.List.{drop_all}
-use Rattle.pw_defs.specs.declared.faults.DiagFault.{DiagFault}
-use Rattle.diagram_defs.specs.Parts.{IsPartOf, GrowsBy}
-use Rattle.diagram_defs.specs.Answers.{IsCause}
+use Rattle.plain_lists.specs.declared.faults.DiagFault.{DiagFault}
+use Rattle.diagram_defs.specs.Parts.{IsPartOf}
+use Rattle.diagram_defs.specs.Answers.{MakesSet}
 use Rattle.diagram_defs.proofs.Canonical.{empty_alone}
-use Rattle.diagram_defs.proofs.PartLemmas.{GrowsBy_wider, refused_wider}
+use Rattle.diagram_defs.proofs.PartLemmas.{GrowsBy_none}
+use Rattle.diagram_defs.proofs.Yielding.{Yields_last}
 use Rattle.std.proofs.lemmas.Bool.{cases_lt, cases_eq, and_parts, false_from_ne_true, false≢true, or_right, or_cases}
 use Rattle.diagram_defs.specs.Rests.{is_rest}
 use Rattle.diagram_defs.specs.Diagrams.{Diagram, kid, member, IsPool, IsSet, IsNumberFor, AreRests, Grows}
 use Rattle.diagram_defs.specs.Diagrams.IsKid.{empty, whole, node}
 use Rattle.diagram_defs.specs.Sets.{full_set, complement_set, and_set, or_set}
-use Rattle.diagram_defs.proofs.Meaning.{member-empty, IsKid-kid, one_level, level_of_one, level_within}
+use Rattle.std.proofs.Math.Bool.{and-false, and-true, and_self, or-false, or_self}
+use Rattle.diagram_defs.proofs.Guards.{guards}
+use Rattle.diagram_defs.proofs.Meaning.{last_number, member-empty, IsKid-kid, one_level, level_of_one, level_within}
 use Rattle.diagram_defs.proofs.Growth.{IsSet_grows}
 use Rattle.diagram_defs.proofs.Steps.{member_rest, rest_behind}
 use Rattle.state_diagrams.proofs.Memo.{joined_set_grows}
@@ -23,38 +26,12 @@ use Rattle.state_diagrams.specs.Joins.{join_test, joined_set, AreApart, IsPlainA
 pub AreRests_join : (d : Diagram) (join : Join) (level a b : ℕ) → AreRests d level (joined_set d join level a b)
 AreRests_join d join level a b = record { each = λ rest e. (and_parts _ _ e).0 }
 
--- a set of rests of the level: the test of the level adds nothing
-kept : (full m : Bool) → (m ≡ true → full ≡ true) → (full && m) ≡ m
-kept full true h = ap (λ (b : Bool). b && true) (h refl)
-kept true false h = refl
-kept false false h = refl
-
-and_none : (full : Bool) → (full && false) ≡ false
-and_none true = refl
-and_none false = refl
-
-and_itself : (m : Bool) → (m && m) ≡ m
-and_itself true = refl
-and_itself false = refl
-
-or_itself : (m : Bool) → (m || m) ≡ m
-or_itself true = refl
-or_itself false = refl
-
-or_none : (m : Bool) → (m || false) ≡ m
-or_none true = refl
-or_none false = refl
-
-and_last : (m : Bool) → (m && false) ≡ false
-and_last true = refl
-and_last false = refl
-
 module _ (d : Diagram) (pool : IsPool d) (level a b : ℕ) (first : IsSet d level a) (second : IsSet d level b) where
   of_first : (rest : List ℕ) → (full_set d level rest && member d.nodes a rest) ≡ member d.nodes a rest
-  of_first rest = kept _ _ (member_rest d.arities d.nodes pool.nodes (length d.nodes) level a rest first)
+  of_first rest = guards _ _ (member_rest d.arities d.nodes pool.nodes (length d.nodes) level a rest first)
 
   of_second : (rest : List ℕ) → (full_set d level rest && member d.nodes b rest) ≡ member d.nodes b rest
-  of_second rest = kept _ _ (member_rest d.arities d.nodes pool.nodes (length d.nodes) level b rest second)
+  of_second rest = guards _ _ (member_rest d.arities d.nodes pool.nodes (length d.nodes) level b rest second)
 
   nothing : (n : ℕ) → n ≡ 0 → (rest : List ℕ) → member d.nodes n rest ≡ false
   nothing n z rest = ap (λ (k : ℕ). member d.nodes k rest) z ∙ member-empty d.nodes rest
@@ -62,15 +39,15 @@ module _ (d : Diagram) (pool : IsPool d) (level a b : ℕ) (first : IsSet d leve
   pub plain_and_right : (n : ℕ) → IsPlainAnd a b n → IsNumberFor d level (joined_set d Both level a b) n
   plain_and_right n (inl zero_first) = record {
     in_level = empty zero_first.1;
-    same = λ rest. nothing n zero_first.1 rest ∙ sym (and_none (full_set d level rest)) ∙ ap (λ (m : Bool). full_set d level rest && (m && member d.nodes b rest)) (sym (nothing a zero_first.0 rest));
+    same = λ rest. nothing n zero_first.1 rest ∙ sym (and-false (full_set d level rest)) ∙ ap (λ (m : Bool). full_set d level rest && (m && member d.nodes b rest)) (sym (nothing a zero_first.0 rest));
   }
   plain_and_right n (inr (inl zero_second)) = record {
     in_level = empty zero_second.1;
-    same = λ rest. nothing n zero_second.1 rest ∙ sym (and_none (full_set d level rest)) ∙ ap (λ (m : Bool). full_set d level rest && m) (sym (and_last (member d.nodes a rest))) ∙ ap (λ (m : Bool). full_set d level rest && (member d.nodes a rest && m)) (sym (nothing b zero_second.0 rest));
+    same = λ rest. nothing n zero_second.1 rest ∙ sym (and-false (full_set d level rest)) ∙ ap (λ (m : Bool). full_set d level rest && m) (sym (and-false (member d.nodes a rest))) ∙ ap (λ (m : Bool). full_set d level rest && (member d.nodes a rest && m)) (sym (nothing b zero_second.0 rest));
   }
   plain_and_right n (inr (inr itself)) = record {
     in_level = subst (IsSet d level) (sym itself.1) first;
-    same = λ rest. ap (λ (k : ℕ). member d.nodes k rest) itself.1 ∙ sym (of_first rest) ∙ ap (λ (m : Bool). full_set d level rest && m) (sym (and_itself (member d.nodes a rest)))
+    same = λ rest. ap (λ (k : ℕ). member d.nodes k rest) itself.1 ∙ sym (of_first rest) ∙ ap (λ (m : Bool). full_set d level rest && m) (sym (and_self (member d.nodes a rest)))
         ∙ ap (λ (k : ℕ). full_set d level rest && (member d.nodes a rest && member d.nodes k rest)) itself.0;
   }
 
@@ -81,11 +58,11 @@ module _ (d : Diagram) (pool : IsPool d) (level a b : ℕ) (first : IsSet d leve
   }
   plain_or_right n (inr (inl zero_second)) = record {
     in_level = subst (IsSet d level) (sym zero_second.1) first;
-    same = λ rest. ap (λ (k : ℕ). member d.nodes k rest) zero_second.1 ∙ sym (of_first rest) ∙ ap (λ (m : Bool). full_set d level rest && m) (sym (or_none (member d.nodes a rest))) ∙ ap (λ (m : Bool). full_set d level rest && (member d.nodes a rest || m)) (sym (nothing b zero_second.0 rest));
+    same = λ rest. ap (λ (k : ℕ). member d.nodes k rest) zero_second.1 ∙ sym (of_first rest) ∙ ap (λ (m : Bool). full_set d level rest && m) (sym (or-false (member d.nodes a rest))) ∙ ap (λ (m : Bool). full_set d level rest && (member d.nodes a rest || m)) (sym (nothing b zero_second.0 rest));
   }
   plain_or_right n (inr (inr itself)) = record {
     in_level = subst (IsSet d level) (sym itself.1) second;
-    same = λ rest. ap (λ (k : ℕ). member d.nodes k rest) itself.1 ∙ sym (of_second rest) ∙ ap (λ (m : Bool). full_set d level rest && m) (sym (or_itself (member d.nodes b rest)))
+    same = λ rest. ap (λ (k : ℕ). member d.nodes k rest) itself.1 ∙ sym (of_second rest) ∙ ap (λ (m : Bool). full_set d level rest && m) (sym (or_self (member d.nodes b rest)))
         ∙ ap (λ (k : ℕ). full_set d level rest && (member d.nodes k rest || member d.nodes b rest)) (sym itself.0);
   }
 
@@ -103,12 +80,6 @@ module _ (d : Diagram) (pool : IsPool d) (level a b : ℕ) (first : IsSet d leve
 
   full_last : level ≡ length d.arities → (rest : List ℕ) → full_set d level rest ≡ is_rest [] rest
   full_last at rest = ap (λ (ds : List ℕ). is_rest ds rest) (drop_all level d.arities (omega arith))
-
-  last_one : (n : ℕ) → level ≡ length d.arities → IsSet d level n → n ≢ 0 → n ≡ 1
-  last_one n at (empty z) ne = absurd (ne z)
-  last_one n at (whole w at') ne = w
-  last_one n at (node place shape is below there same) ne =
-      let good = (pool.nodes.each place shape there).level_in in absurd (omega arith)
 
   -- behind the last level a join is known by its answer at the empty rest
   last_join : (join : Join) (n : ℕ) → level ≡ length d.arities → IsSet d level n → nat_eq n 1 ≡ join_test join (nat_eq a 1) (nat_eq b 1) → IsNumberFor d level (joined_set d join level a b) n
@@ -128,9 +99,9 @@ module _ (d : Diagram) (pool : IsPool d) (level a b : ℕ) (first : IsSet d leve
 
   pub neither_zero : level ≡ length d.arities → (a ≢ 0) ⊎ (b ≢ 0) → IsNumberFor d level (joined_set d Neither level a b) 0
   neither_zero at (inl some) =
-      last_join Neither 0 at (empty refl) (sym (ap (λ (k : ℕ). not (nat_eq k 1 || nat_eq b 1)) (last_one a at first some)))
+      last_join Neither 0 at (empty refl) (sym (ap (λ (k : ℕ). not (nat_eq k 1 || nat_eq b 1)) (last_number d pool level a at first some)))
   neither_zero at (inr some) =
-      last_join Neither 0 at (empty refl) (sym (ap (λ (k : ℕ). not (nat_eq a 1 || nat_eq k 1)) (last_one b at second some) ∙ ap not (or_right (nat_eq a 1) true refl)))
+      last_join Neither 0 at (empty refl) (sym (ap (λ (k : ℕ). not (nat_eq a 1 || nat_eq k 1)) (last_number d pool level b at second some) ∙ ap not (or_right (nat_eq a 1) true refl)))
 
   -- the same, as the calls answer
   pub plain_and_some : (join : Join) → join ≡ Both → (o : Option ℕ) → MatchOption o (AreApart a b) (IsPlainAnd a b) → IfSome o (IsNumberFor d level (joined_set d join level a b))
@@ -162,23 +133,19 @@ module _ (old mid : Diagram) (g : Grows old mid) (join : Join) (level a b : ℕ)
 -- the joins as their calls name them
 pub joined_full : (d : Diagram) (level : ℕ) (rest : List ℕ) → joined_set d Neither level 0 0 rest ≡ full_set d level rest
 joined_full d level rest =
-    ap (λ (m : Bool). full_set d level rest && not (m || m)) (member-empty d.nodes rest) ∙ and_true (full_set d level rest)
-  where
-    and_true : (m : Bool) → (m && true) ≡ m
-    and_true true = refl
-    and_true false = refl
+    ap (λ (m : Bool). full_set d level rest && not (m || m)) (member-empty d.nodes rest) ∙ and-true (full_set d level rest)
 
 pub joined_complement : (d : Diagram) (level a : ℕ) (rest : List ℕ) → joined_set d Neither level a 0 rest ≡ complement_set d level a rest
 joined_complement d level a rest =
-    ap (λ (m : Bool). full_set d level rest && not (member d.nodes a rest || m)) (member-empty d.nodes rest) ∙ ap (λ (m : Bool). full_set d level rest && not m) (or_none (member d.nodes a rest))
+    ap (λ (m : Bool). full_set d level rest && not (member d.nodes a rest || m)) (member-empty d.nodes rest) ∙ ap (λ (m : Bool). full_set d level rest && not m) (or-false (member d.nodes a rest))
 
 module _ (d : Diagram) (pool : IsPool d) (level a b : ℕ) (first : IsSet d level a) (second : IsSet d level b) where
   pub joined_and : (rest : List ℕ) → joined_set d Both level a b rest ≡ and_set d.nodes a b rest
   joined_and rest =
-      kept _ _ (λ e. member_rest d.arities d.nodes pool.nodes (length d.nodes) level a rest first (and_parts _ _ e).0)
+      guards _ _ (λ e. member_rest d.arities d.nodes pool.nodes (length d.nodes) level a rest first (and_parts _ _ e).0)
 
   pub joined_or : (rest : List ℕ) → joined_set d Either level a b rest ≡ or_set d.nodes a b rest
-  joined_or rest = kept _ _ (λ e. elim (or_cases _ _ e) [
+  joined_or rest = guards _ _ (λ e. elim (or_cases _ _ e) [
     | inl in_first ↦ member_rest d.arities d.nodes pool.nodes (length d.nodes) level a rest first in_first
     | inr in_second ↦ member_rest d.arities d.nodes pool.nodes (length d.nodes) level b rest second in_second
   ])
@@ -218,42 +185,26 @@ module _ (d : Diagram) (pool : IsPool d) (a b found : ℕ) (is : IsSet d found (
   ]
 
 -- an empty set is of all levels
-module _ (old new : Diagram) (level last : ℕ) (set : List ℕ → Bool) (at : last ≡ length old.arities) (none : (rest : List ℕ) → set rest ≡ false) where
-  nothing_made : IsPool new → new.arities ≡ old.arities → (r : Result ℕ DiagFault) → IfOk r (IsNumberFor new last set) → IfOk r (IsNumberFor new level set)
-  nothing_made pool same (Ok n) is =
-      let fits : last + 0 ≡ length new.arities = let e = ap length same in omega arith in
-      let zero_is = empty_alone new.arities new.nodes pool.nodes pool.sharp 0 (length new.nodes) last n fits is.in_level (λ rest. is.same rest ∙ none rest) in
-      record { in_level = empty zero_is; same = is.same }
-  nothing_made pool same (Err e) is = tt
+nothing_made : (old new : Diagram) (level last : ℕ) (set : List ℕ → Bool) → last ≡ length old.arities → ((rest : List ℕ) → set rest ≡ false) → (r : Result ℕ DiagFault) → MakesSet last set old new r → MakesSet level set old new r
+nothing_made old new level last set at none r made =
+    Yields_last (IsNumberFor new last set) (IsNumberFor new level set) r (GrowsBy_none _ old made.0.grows.was) no_parts empty_too made
+  where
+    no_parts : (l : ℕ) (part : List ℕ → Bool) → IsPartOf (length old.arities) last set l part → IsPartOf (length old.arities) level set l part
+    no_parts l part p = let inside = p.level_in in let place = p.at in absurd (omega arith)
 
-  no_parts : (l : ℕ) (part : List ℕ → Bool) → IsPartOf (length old.arities) last set l part → IsPartOf (length old.arities) level set l part
-  no_parts l part p = let inside = p.level_in in let place = p.at in absurd (omega arith)
+    empty_too : (n : ℕ) → IsNumberFor new last set n → IsNumberFor new level set n
+    empty_too n is =
+        let g = made.0.grows in
+        let fits : last + 0 ≡ length new.arities = let e = ap length g.arities in omega arith in
+        let zero_is = empty_alone new.arities new.nodes g.is.nodes g.is.sharp 0 (length new.nodes) last n fits is.in_level (λ rest. is.same rest ∙ none rest) in
+        record { in_level = empty zero_is; same = is.same }
 
-  nothing_grown : GrowsBy (IsPartOf (length old.arities) last set) old new → GrowsBy (IsPartOf (length old.arities) level set) old new
-  nothing_grown is = GrowsBy_wider _ _ old new no_parts is
-
-  nothing_refused : (r : Result ℕ DiagFault) → IfErr r (IsCause new (IsPartOf (length old.arities) last set)) → IfErr r (IsCause new (IsPartOf (length old.arities) level set))
-  nothing_refused r why = refused_wider _ _ new r no_parts why
-
--- the answers for a set at each level that its numbers have
-module _ (old new : Diagram) (a b level found : ℕ) (set : List ℕ → Bool) (one : (level ≡ found) ⊎ ((a ≡ 0) × (b ≡ 0) × (found ≡ length old.arities))) (none : a ≡ 0 → b ≡ 0 → (rest : List ℕ) → set rest ≡ false) where
-  pub any_made : Grows old new → (r : Result ℕ DiagFault) → IfOk r (IsNumberFor new found set) → IfOk r (IsNumberFor new level set)
-  any_made g r is = elim one [
-    | inl e ↦ subst (λ (l : ℕ). IfOk r (IsNumberFor new l set)) (sym e) is
-    | inr zero_both ↦ nothing_made old new level found set zero_both.2 (none zero_both.0 zero_both.1) g.is g.arities r is
-  ]
-
-  pub any_grown : GrowsBy (IsPartOf (length old.arities) found set) old new → GrowsBy (IsPartOf (length old.arities) level set) old new
-  any_grown is = elim one [
-    | inl e ↦ subst (λ (l : ℕ). GrowsBy (IsPartOf (length old.arities) l set) old new) (sym e) is
-    | inr zero_both ↦ nothing_grown old new level found set zero_both.2 (none zero_both.0 zero_both.1) is
-  ]
-
-  pub any_refused : (r : Result ℕ DiagFault) → IfErr r (IsCause new (IsPartOf (length old.arities) found set)) → IfErr r (IsCause new (IsPartOf (length old.arities) level set))
-  any_refused r why = elim one [
-    | inl e ↦ subst (λ (l : ℕ). IfErr r (IsCause new (IsPartOf (length old.arities) l set))) (sym e) why
-    | inr zero_both ↦ nothing_refused old new level found set zero_both.2 (none zero_both.0 zero_both.1) r why
-  ]
+-- the answer for a set at each level that its numbers have
+pub any_level : (old new : Diagram) (a b level found : ℕ) (set : List ℕ → Bool) → (level ≡ found) ⊎ ((a ≡ 0) × (b ≡ 0) × (found ≡ length old.arities)) → (a ≡ 0 → b ≡ 0 → (rest : List ℕ) → set rest ≡ false) → (r : Result ℕ DiagFault) → MakesSet found set old new r → MakesSet level set old new r
+any_level old new a b level found set one none r made = elim one [
+  | inl e ↦ subst (λ (l : ℕ). MakesSet l set old new r) (sym e) made
+  | inr zero_both ↦ nothing_made old new level found set zero_both.2 (none zero_both.0 zero_both.1) r made
+]
 
 -- the joins of two empty sets are empty
 pub and_nothing : (d : Diagram) (a b : ℕ) → a ≡ 0 → b ≡ 0 → (rest : List ℕ) → and_set d.nodes a b rest ≡ false

@@ -1,8 +1,11 @@
--- Sets that look at one level, and sets with any values before a level.
+-- Sets that look at one level.
 use Rattle.std.proofs.Common.{◌≡◌, ℕ, zero, suc, ◌+◌, ◌-◌, ◌≤◌, ◌<◌, Bool, true, false, ◌&&◌, ◌==◌, if◌then◌else◌, List, [], ◌∷◌, length, get_or, drop, replicate, refl, sym, ap, ◌∙◌, subst, inl, inr, arith}
 use Rattle.std.specs.Int.{bit_at}
 use Rattle.std.proofs.lemmas.List.{get_or-replicate, get_or-drop, length-replicate}
 use Rattle.std.proofs.lemmas.Bool.{and_parts, cases_lt}
+use Rattle.std.proofs.Math.Bool.{and-false, and-true}
+use Rattle.diagram_defs.proofs.Guards.{guards_second}
+use Rattle.diagram_defs.proofs.Widened.{widened_up, widened_itself}
 use Rattle.diagram_defs.specs.Rests.{is_rest}
 use Rattle.diagram_defs.specs.Diagrams.{Diagram, member, IsPool, IsNumberFor, AreRests, AreKidsFor, Grows}
 use Rattle.diagram_defs.specs.Diagrams.IsKid.{empty}
@@ -15,58 +18,6 @@ use Rattle.diagram_defs.proofs.PartLemmas.{IsPartOf_same}
 use Rattle.diagram_defs.proofs.Steps.{rest_behind, rest_past, rest_short, value_parts}
 use Rattle.state_diagrams.specs.Masks.{choice_set, IsPicked, PicksNone}
 
-and_none : (m : Bool) → (m && false) ≡ false
-and_none true = refl
-and_none false = refl
-
-and_true : (m : Bool) → (m && true) ≡ m
-and_true true = refl
-and_true false = refl
-
--- any values before a level
-module _ (old : Diagram) (pool : IsPool old) (from : ℕ) (set : List ℕ → Bool) (fits : from ≤ length old.arities) where
-  pub AreRests_widened : (level : ℕ) → AreRests old level (widened_set old level from set)
-  AreRests_widened level = record { each = λ rest e. (and_parts _ _ e).0 }
-
-  pub widened_behind : (level v : ℕ) (rest : List ℕ) → level < from → v < get_or old.arities level 0 → widened_set old (level + 1) from set rest ≡ widened_set old level from set (v ∷ rest)
-  widened_behind level v rest before low =
-      let inside : level < length old.arities = omega arith in
-      let steps : from - level ≡ suc (from - (level + 1)) = omega arith in
-      let full = rest_behind old.arities level inside v rest low in
-      λ i. (sym full) i && set (ap (λ (k : ℕ). drop k (v ∷ rest)) (sym steps) i)
-
-  pub widened_up : (k level : ℕ) (l : ℕ) (part : List ℕ → Bool) → level + k ≤ from → IsPartOf (length old.arities) (level + k) (widened_set old (level + k) from set) l part → IsPartOf (length old.arities) level (widened_set old level from set) l part
-  widened_up zero level l part below p =
-      let same : level + 0 ≡ level = omega arith in
-      subst (λ (n : ℕ). IsPartOf (length old.arities) n (widened_set old n from set) l part) same p
-  widened_up (suc k) level l part below p =
-      let same : level + suc k ≡ level + 1 + k = omega arith in
-      let inside : level < length old.arities = omega arith in
-      let positive = pool.arities.low level inside in
-      let further = widened_up k (level + 1) l part (omega arith) (subst (λ (n : ℕ). IsPartOf (length old.arities) n (widened_set old n from set) l part) same p) in
-      value_parts level (widened_set old level from set) (length old.arities) (length old.arities) 0 (widened_set old (level + 1) from set) refl (λ rest. widened_behind level 0 rest (omega arith) (omega arith)) l part further
-
-  pub widened_kids : (mid : Diagram) (level n : ℕ) (kids : List ℕ) → mid.arities ≡ old.arities → level < from → kids ≡ replicate (get_or mid.arities level 0) n → IsNumberFor mid (level + 1) (widened_set old (level + 1) from set) n → AreKidsFor mid level (widened_set old level from set) kids
-  widened_kids mid level n kids arities before all is =
-      let wide = ap length all ∙ length-replicate (get_or mid.arities level 0) n in
-      record {
-        arity = wide;
-        each = λ v low.
-            let inside : v < get_or mid.arities level 0 = omega arith in
-            let here = ap (λ (ks : List ℕ). get_or ks v 0) all ∙ get_or-replicate (get_or mid.arities level 0) v n 0 inside in
-            subst (IsNumberFor mid (level + 1) (λ rest. widened_set old level from set (v ∷ rest))) (sym here) (IsNumberFor_same mid (level + 1) (widened_set old (level + 1) from set) (λ rest. widened_set old level from set (v ∷ rest)) n (λ rest. widened_behind level v rest before (subst (λ (as' : List ℕ). v < get_or as' level 0) arities inside)) is);
-      }
-
--- at the level itself nothing stands before
-pub widened_itself : (old : Diagram) (from : ℕ) (set : List ℕ → Bool) → AreRests old from set → (rest : List ℕ) → set rest ≡ widened_set old from from set rest
-widened_itself old from set rests rest =
-    let none : from - from ≡ 0 = omega arith in
-    sym (keeps (full_set old from rest) (set rest) (rests.each rest)) ∙ ap (λ (k : ℕ). full_set old from rest && set (drop k rest)) (sym none)
-  where
-    keeps : (full m : Bool) → (m ≡ true → full ≡ true) → (full && m) ≡ m
-    keeps full true h = ap (λ (b : Bool). b && true) (h refl)
-    keeps full false h = and_none full
-
 -- the first value of a rest has its bit
 module _ (old : Diagram) (level mask : ℕ) (inside : level < length old.arities) where
   pub AreRests_choice : AreRests old level (choice_set old level mask)
@@ -74,10 +25,10 @@ module _ (old : Diagram) (level mask : ℕ) (inside : level < length old.arities
 
   pub choice_behind : (v : ℕ) (rest : List ℕ) → v < get_or old.arities level 0 → (bit_at mask v == 1) ≡ true → full_set old (level + 1) rest ≡ choice_set old level mask (v ∷ rest)
   choice_behind v rest low picked =
-      sym (rest_behind old.arities level inside v rest low) ∙ sym (and_true (full_set old level (v ∷ rest))) ∙ ap (λ (m : Bool). full_set old level (v ∷ rest) && m) (sym picked)
+      sym (rest_behind old.arities level inside v rest low) ∙ sym (and-true (full_set old level (v ∷ rest))) ∙ ap (λ (m : Bool). full_set old level (v ∷ rest) && m) (sym picked)
 
   choice_not : (v : ℕ) (rest : List ℕ) → (bit_at mask v == 1) ≡ false → choice_set old level mask (v ∷ rest) ≡ false
-  choice_not v rest out = ap (λ (m : Bool). full_set old level (v ∷ rest) && m) out ∙ and_none (full_set old level (v ∷ rest))
+  choice_not v rest out = ap (λ (m : Bool). full_set old level (v ∷ rest) && m) out ∙ and-false (full_set old level (v ∷ rest))
 
   pub choice_none : PicksNone mask (get_or old.arities level 0) → (rest : List ℕ) → choice_set old level mask rest ≡ false
   choice_none none [] = ap (λ (m : Bool). m && (bit_at mask 0 == 1)) (rest_short old.arities level inside)
@@ -103,11 +54,7 @@ pub literal_from : (old : Diagram) (level mask : ℕ) (state : List ℕ) → wid
 literal_from old level mask state =
     let whole : level - 0 ≡ level = omega arith in
     let place : level + 0 ≡ level = omega arith in
-    ap (λ (k : ℕ). full_set old 0 state && choice_set old level mask (drop k state)) whole ∙ guard (full_set old 0 state) (full_set old level (drop level state)) _ _ (is_rest-drop level old.arities state) (ap (λ (v : ℕ). bit_at mask v == 1) (get_or-drop level state 0 0 ∙ ap (λ (k : ℕ). get_or state k 0) place))
-  where
-    guard : (a b c d : Bool) → (a ≡ true → b ≡ true) → c ≡ d → (a && (b && c)) ≡ (a && d)
-    guard true b c d h e = ap (λ (m : Bool). m && c) (h refl) ∙ e
-    guard false b c d h e = refl
+    ap (λ (k : ℕ). full_set old 0 state && choice_set old level mask (drop k state)) whole ∙ guards_second (full_set old 0 state) (full_set old level (drop level state)) _ _ (is_rest-drop level old.arities state) (ap (λ (v : ℕ). bit_at mask v == 1) (get_or-drop level state 0 0 ∙ ap (λ (k : ℕ). get_or state k 0) place))
 
 -- a part of the choice stands in the literal behind any values of the levels before
 pub literal_parts : (old : Diagram) (pool : IsPool old) (level mask : ℕ) → level < length old.arities → (l : ℕ) (part : List ℕ → Bool) → IsPartOf (length old.arities) level (choice_set old level mask) l part → IsPartOf (length old.arities) 0 (literal_set old level mask) l part

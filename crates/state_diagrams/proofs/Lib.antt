@@ -1,6 +1,5 @@
 pub mod Additions
 pub mod Cases
-pub mod EvenTables
 pub mod Fields
 pub mod JoinLemmas
 pub mod Levels

@@ -3,8 +3,8 @@ use Rattle.std.specs.Prelude.{◌≡◌, ℕ, ◌+◌, ◌⊎◌, List, [], ◌�
 use Rattle.std.specs.declared.hash.FoldHasher.{FoldHasher}
 use Rattle.std.specs.declared.hash.BuildHasherDefault.{BuildHasherDefault}
 use Rattle.indexmap.specs.IndexSet.{IndexSet}
-use Rattle.pw_defs.specs.declared.faults.DiagFault.{DiagFault}
-use Rattle.pw_defs.specs.declared.faults.DiagFault.TheVariants.{Bound, Memory}
+use Rattle.plain_lists.specs.declared.faults.DiagFault.{DiagFault}
+use Rattle.plain_lists.specs.declared.faults.DiagFault.TheVariants.{Bound, Memory}
 use Rattle.diagram_defs.specs.Diagrams.{Shape, Diagram}
 use Rattle.state_diagrams.specs.declared.nodes.Node.{Node}
 

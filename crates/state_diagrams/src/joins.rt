@@ -3,12 +3,11 @@
 ghost use Rattle.std.specs.Prelude.{◌≡◌, ◌≤◌, ◌<◌, ◌+◌, ◌⊎◌, ℕ, IfOk, IfErr, IfSome, IfNone, MatchOption, length, slice_index};
 ghost use Rattle.diagram_defs.specs.Diagrams.{IsPool, IsSet, AreOfOneLevel, AtTheirLevel, AreKidsFor, IsNumberFor, Grows};
 ghost use Rattle.diagram_defs.specs.Sets.{full_set, and_set, or_set, complement_set};
-ghost use Rattle.diagram_defs.specs.Parts.{GrowsBy, IsPartOf};
-ghost use Rattle.diagram_defs.specs.Answers.{IsCause};
+ghost use Rattle.diagram_defs.specs.Answers.{MakesSet, MakesKids};
 ghost use Rattle.state_diagrams.specs.Joins.{joined_set, AreApart, IsPlainAnd, IsPlainOr};
 
 use crate::pool::Pool;
-use pw_defs::DiagFault;
+use plain_lists::DiagFault;
 use smallvec::SmallVec;
 
 /// Which rests the join of two sets has: those in both, those in one, or those of the level that are in neither.
@@ -33,11 +32,9 @@ impl Pool {
     /// table is full and a part of the result has no node.
     pub fn full(&mut self, level: u32) -> Result<u32, DiagFault>
         requires { level ≤ length self.old.arities }
-        ensures number { IfOk result (IsNumberFor self.new level (full_set self.old level)) }
-        ensures grows { GrowsBy (IsPartOf (length self.old.arities) level (full_set self.old level)) self.old self.new }
-        ensures cause { IfErr result (IsCause self.new (IsPartOf (length self.old.arities) level (full_set self.old level))) }
+        ensures { MakesSet level (full_set self.old level) self.old self.new result }
     {
-        self.join_anew(Join::Neither, level, 0, 0)
+        self.joined(Join::Neither, level, 0, 0)
     }
 
     /// The number of the rests of a level that aren't in a set of the level. `Bound` comes only where the table is
@@ -45,39 +42,29 @@ impl Pool {
     pub fn complement(&mut self, level: u32, a: u32) -> Result<u32, DiagFault>
         requires level_in { level ≤ length self.old.arities }
         requires number { IsSet self.old level a }
-        ensures number { IfOk result (IsNumberFor self.new level (complement_set self.old level a)) }
-        ensures grows { GrowsBy (IsPartOf (length self.old.arities) level (complement_set self.old level a)) self.old self.new }
-        ensures cause { IfErr result (IsCause self.new (IsPartOf (length self.old.arities) level (complement_set self.old level a))) }
+        ensures { MakesSet level (complement_set self.old level a) self.old self.new result }
     {
-        self.join_anew(Join::Neither, level, a, 0)
+        self.joined(Join::Neither, level, a, 0)
     }
 
     /// The number of the intersection of two sets, which have one level or are empty. `Bound` comes only where the
     /// table is full and a part of the result has no node.
     pub fn and(&mut self, a: u32, b: u32) -> Result<u32, DiagFault>
         requires { AreOfOneLevel self.old a b }
-        ensures number { AtTheirLevel self.old a b (λ level. IfOk result (IsNumberFor self.new level (and_set self.old.nodes a b))) }
-        ensures grows { AtTheirLevel self.old a b (λ level.
-            GrowsBy (IsPartOf (length self.old.arities) level (and_set self.old.nodes a b)) self.old self.new) }
-        ensures cause { AtTheirLevel self.old a b (λ level.
-            IfErr result (IsCause self.new (IsPartOf (length self.old.arities) level (and_set self.old.nodes a b)))) }
+        ensures { AtTheirLevel self.old a b (λ level. MakesSet level (and_set self.old.nodes a b) self.old self.new result) }
     {
         let level = self.common_level(a, b);
-        self.join_anew(Join::Both, level, a, b)
+        self.joined(Join::Both, level, a, b)
     }
 
     /// The number of the union of two sets, which have one level or are empty. `Bound` comes only where the table is
     /// full and a part of the result has no node.
     pub fn or(&mut self, a: u32, b: u32) -> Result<u32, DiagFault>
         requires { AreOfOneLevel self.old a b }
-        ensures number { AtTheirLevel self.old a b (λ level. IfOk result (IsNumberFor self.new level (or_set self.old.nodes a b))) }
-        ensures grows { AtTheirLevel self.old a b (λ level.
-            GrowsBy (IsPartOf (length self.old.arities) level (or_set self.old.nodes a b)) self.old self.new) }
-        ensures cause { AtTheirLevel self.old a b (λ level.
-            IfErr result (IsCause self.new (IsPartOf (length self.old.arities) level (or_set self.old.nodes a b)))) }
+        ensures { AtTheirLevel self.old a b (λ level. MakesSet level (or_set self.old.nodes a b) self.old self.new result) }
     {
         let level = self.common_level(a, b);
-        self.join_anew(Join::Either, level, a, b)
+        self.joined(Join::Either, level, a, b)
     }
 
     // A level of both numbers. Where both are 0 it is the number of levels.
@@ -93,28 +80,25 @@ impl Pool {
         self.level(a.max(b).max(1))
     }
 
-    // The number of the join of two sets of a level, as a call of its own.
-    fn join_anew(&mut self, join: Join, level: u32, a: u32, b: u32) -> Result<u32, DiagFault>
+    /// The number of the join of two sets of a level. `Bound` comes only where the table is full and a part of the
+    /// result has no node.
+    pub fn joined(&mut self, join: Join, level: u32, a: u32, b: u32) -> Result<u32, DiagFault>
         requires level_in { level ≤ length self.old.arities }
         requires first { IsSet self.old level a }
         requires second { IsSet self.old level b }
-        ensures number { IfOk result (IsNumberFor self.new level (joined_set self.old join level a b)) }
-        ensures grows { GrowsBy (IsPartOf (length self.old.arities) level (joined_set self.old join level a b)) self.old self.new }
-        ensures cause { IfErr result (IsCause self.new (IsPartOf (length self.old.arities) level (joined_set self.old join level a b))) }
+        ensures { MakesSet level (joined_set self.old join level a b) self.old self.new result }
     {
         self.forget();
         self.join(join, level, a, b)
     }
 
-    // The number of the join of two sets of a level.
+    // The same, as a step of the walk: what was remembered stays.
     #[cycle(join)]
     fn join(&mut self, join: Join, level: u32, a: u32, b: u32) -> Result<u32, DiagFault>
         requires level_in { level ≤ length self.old.arities }
         requires first { IsSet self.old level a }
         requires second { IsSet self.old level b }
-        ensures number { IfOk result (IsNumberFor self.new level (joined_set self.old join level a b)) }
-        ensures grows { GrowsBy (IsPartOf (length self.old.arities) level (joined_set self.old join level a b)) self.old self.new }
-        ensures cause { IfErr result (IsCause self.new (IsPartOf (length self.old.arities) level (joined_set self.old join level a b))) }
+        ensures { MakesSet level (joined_set self.old join level a b) self.old self.new result }
     {
         if let Some(n) = self.plain_join(join, level, a, b) {
             return Ok(n);
@@ -141,9 +125,7 @@ impl Pool {
         requires level_in { level < length self.old.arities }
         requires first { IsSet self.old level a }
         requires second { IsSet self.old level b }
-        ensures kids { IfOk result (λ kids. AreKidsFor self.new level (joined_set self.old join level a b) kids.items) }
-        ensures grows { GrowsBy (IsPartOf (length self.old.arities) level (joined_set self.old join level a b)) self.old self.new }
-        ensures cause { IfErr result (IsCause self.new (IsPartOf (length self.old.arities) level (joined_set self.old join level a b))) }
+        ensures { MakesKids (λ kids. kids.items) level (joined_set self.old join level a b) self.old self.new result }
     {
         let arity = self.arity(level);
         let mut kids = SmallVec::new(self.allocator());

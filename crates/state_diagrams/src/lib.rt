@@ -6,7 +6,6 @@ mod joins;
 mod literals;
 mod nodes;
 mod pool;
-#[cfg(test)]
-mod tests;
 
+pub use joins::Join;
 pub use pool::Pool;

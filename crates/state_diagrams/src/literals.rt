@@ -4,12 +4,11 @@ ghost use Rattle.std.specs.Prelude.{◌≡◌, ◌≤◌, ◌<◌, ◌+◌, ◌=
 ghost use Rattle.std.specs.Int.{bit_at};
 ghost use Rattle.diagram_defs.specs.Diagrams.{IsSet, IsNumberFor, member};
 ghost use Rattle.diagram_defs.specs.Sets.{literal_set, widened_set};
-ghost use Rattle.diagram_defs.specs.Parts.{GrowsBy, IsPartOf};
-ghost use Rattle.diagram_defs.specs.Answers.{IsCause};
+ghost use Rattle.diagram_defs.specs.Answers.{MakesSet};
 ghost use Rattle.state_diagrams.specs.Masks.{choice_set, IsPicked, PicksSome, PicksNone};
 
 use crate::pool::Pool;
-use pw_defs::DiagFault;
+use plain_lists::DiagFault;
 use smallvec::SmallVec;
 use std::alloc::{AllocError, Global};
 
@@ -18,9 +17,7 @@ impl Pool {
     /// count for nothing. `Bound` comes only where the table is full and a part of the result has no node.
     pub fn literal(&mut self, level: u32, mask: u64) -> Result<u32, DiagFault>
         requires { level < length self.old.arities }
-        ensures number { IfOk result (IsNumberFor self.new 0 (literal_set self.old level mask)) }
-        ensures grows { GrowsBy (IsPartOf (length self.old.arities) 0 (literal_set self.old level mask)) self.old self.new }
-        ensures cause { IfErr result (IsCause self.new (IsPartOf (length self.old.arities) 0 (literal_set self.old level mask))) }
+        ensures { MakesSet 0 (literal_set self.old level mask) self.old self.new result }
     {
         let n = self.choice(level, mask)?;
         self.widen(0, level, n)
@@ -29,9 +26,7 @@ impl Pool {
     // The number of the rests of a level whose first value has its bit in the mask.
     fn choice(&mut self, level: u32, mask: u64) -> Result<u32, DiagFault>
         requires { level < length self.old.arities }
-        ensures number { IfOk result (IsNumberFor self.new level (choice_set self.old level mask)) }
-        ensures grows { GrowsBy (IsPartOf (length self.old.arities) level (choice_set self.old level mask)) self.old self.new }
-        ensures cause { IfErr result (IsCause self.new (IsPartOf (length self.old.arities) level (choice_set self.old level mask))) }
+        ensures { MakesSet level (choice_set self.old level mask) self.old self.new result }
     {
         let alloc = self.allocator();
         let arity = self.arity(level);
@@ -49,9 +44,7 @@ impl Pool {
         requires order { level ≤ from }
         requires level_in { from ≤ length self.old.arities }
         requires number { IsSet self.old from n }
-        ensures number { IfOk result (IsNumberFor self.new level (widened_set self.old level from (member self.old.nodes n))) }
-        ensures grows { GrowsBy (IsPartOf (length self.old.arities) level (widened_set self.old level from (member self.old.nodes n))) self.old self.new }
-        ensures cause { IfErr result (IsCause self.new (IsPartOf (length self.old.arities) level (widened_set self.old level from (member self.old.nodes n)))) }
+        ensures { MakesSet level (widened_set self.old level from (member self.old.nodes n)) self.old self.new result }
     {
         let alloc = self.allocator();
         let mut n = n;

@@ -3,15 +3,14 @@
 ghost use Rattle.std.specs.Prelude.{◌≡◌, ◌≤◌, ◌<◌, ◌+◌, ◌↔◌, IsTrue, IfOk, IfErr, IfSome, OnOk, OnErr, MatchBool, [], length, slice_index};
 ghost use Rattle.diagram_defs.specs.Diagrams.{IsPool, IsSet, IsNode, HasKid, AreKids, AreArities, IsNumberFor, Grows, kid, member};
 ghost use Rattle.diagram_defs.specs.Sets.{case_set};
-ghost use Rattle.diagram_defs.specs.Parts.{GrowsBy, IsPartOf};
-ghost use Rattle.diagram_defs.specs.Answers.{IsCause};
+ghost use Rattle.diagram_defs.specs.Answers.{MakesSet};
 ghost use Rattle.state_diagrams.specs.Nodes.{shape, IsNumberOf, IsAbsent, IsPut, IsRefusal, HasNoKid};
 ghost use Rattle.state_diagrams.specs.Remembered.{IsRemembered};
 
 use crate::joins::Task;
 use crate::nodes::{Node, find, put};
 use indexmap::IndexSet;
-use pw_defs::{DiagFault, Memory};
+use plain_lists::{DiagFault, Memory};
 use smallvec::SmallVec;
 use std::alloc::Global;
 use std::collections::HashMap;
@@ -128,28 +127,38 @@ impl Pool {
         requires level_in { level < length self.old.arities }
         requires arity { length kids.now ≡ slice_index self.old.arities level }
         requires below { AreKids self.old.arities self.old.nodes (length self.old.nodes) (level + 1) kids.now }
-        ensures number { IfOk result (IsNumberFor self.new level (case_set self.old.nodes kids.now)) }
-        ensures grows { GrowsBy (IsPartOf (length self.old.arities) level (case_set self.old.nodes kids.now)) self.old self.new }
-        ensures cause { IfErr result (IsCause self.new (IsPartOf (length self.old.arities) level (case_set self.old.nodes kids.now))) }
+        ensures { MakesSet level (case_set self.old.nodes kids.now) self.old self.new result }
     {
         let kids = SmallVec::from_slice(self.allocator(), kids)?;
         self.case_of(level, kids)
     }
 
-    // The same, with the children in their own storage.
-    pub(crate) fn case_of(&mut self, level: u32, kids: SmallVec<u32, 4>) -> Result<u32, DiagFault>
+    /// The same, with the children in their own storage.
+    pub fn case_of(&mut self, level: u32, kids: SmallVec<u32, 4>) -> Result<u32, DiagFault>
         requires level_in { level < length self.old.arities }
         requires arity { length kids.items ≡ slice_index self.old.arities level }
         requires below { AreKids self.old.arities self.old.nodes (length self.old.nodes) (level + 1) kids.items }
-        ensures number { IfOk result (IsNumberFor self.new level (case_set self.old.nodes kids.items)) }
-        ensures grows { GrowsBy (IsPartOf (length self.old.arities) level (case_set self.old.nodes kids.items)) self.old self.new }
-        ensures cause { IfErr result (IsCause self.new (IsPartOf (length self.old.arities) level (case_set self.old.nodes kids.items))) }
+        ensures { MakesSet level (case_set self.old.nodes kids.items) self.old self.new result }
     {
         let _count = self.nodes();
         if !has_kid(kids.as_slice()) {
             return Ok(0);
         }
         self.place(Node { level, kids })
+    }
+
+    /// The number of the same set, where it is empty or its node is there. Nothing is added.
+    pub fn case_there(&self, level: u32, kids: SmallVec<u32, 4>) -> Option<u32>
+        requires level_in { level < length self.now.arities }
+        requires arity { length kids.items ≡ slice_index self.now.arities level }
+        requires below { AreKids self.now.arities self.now.nodes (length self.now.nodes) (level + 1) kids.items }
+        ensures { IfSome result (IsNumberFor self.now level (case_set self.now.nodes kids.items)) }
+    {
+        let _count = self.nodes();
+        if !has_kid(kids.as_slice()) {
+            return Some(0);
+        }
+        find(&self.nodes, &Node { level, kids })
     }
 
     /// The allocator of the table's own storage.

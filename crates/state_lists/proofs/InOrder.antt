@@ -7,10 +7,11 @@ use Rattle.std.proofs.lemmas.Cmp.{tied_itself}
 use Rattle.pw_defs.specs.Values.{value_cmp}
 use Rattle.pw_defs.specs.declared.values.Value.{Value}
 use Rattle.pw_defs.specs.declared.conditions.Cond.{Cond}
-use Rattle.base_defs.specs.Orders.{IsRising, state_cmp}
-use Rattle.base_defs.proofs.Rising.{IsRising-append, IsRising-filter, each_joined}
-use Rattle.base_defs.proofs.TotalOrders.{value_cmp_total}
-use Rattle.intent_defs.specs.States.{all_states, legal_states, meets}
+use Rattle.list_defs.specs.Orders.{IsRising}
+use Rattle.pw_defs.specs.Values.{state_cmp}
+use Rattle.list_defs.proofs.Rising.{IsRising-append, IsRising-filter, each_joined}
+use Rattle.supply_defs.proofs.TotalOrders.{value_cmp_total}
+use Rattle.supply_defs.specs.States.{all_states, legal_states, meets}
 
 -- what begins with the same value compares by the rest
 below_behind : (v : Value) (s t : List Value) → state_cmp s t ≡ Less → state_cmp (v ∷ s) (v ∷ t) ≡ Less

@@ -3,9 +3,9 @@ use Rattle.std.proofs.Common.{◌↔◌, List, [], ◌∷◌, map, inl, inr, ref
 use Rattle.std.specs.List.{AllZip}
 use Rattle.pw_defs.specs.declared.values.Value.{Value}
 use Rattle.pw_defs.specs.declared.conditions.Cond.{Cond}
-use Rattle.base_defs.specs.Members.{IsIn}
-use Rattle.base_defs.proofs.Members.{IsIn-filter, IsIn-filter_from, IsIn-flat_map, IsIn-flat_map_from, IsIn-map, IsIn-map_from}
-use Rattle.intent_defs.specs.States.{IsLegal, all_states, legal_states, meets}
+use Rattle.list_defs.specs.Members.{IsIn}
+use Rattle.list_defs.proofs.Members.{IsIn-filter, IsIn-filter_from, IsIn-flat_map, IsIn-flat_map_from, IsIn-map, IsIn-map_from}
+use Rattle.supply_defs.specs.States.{IsLegal, all_states, legal_states, meets}
 
 -- the states that begin with a value
 block : List (List Value) → Value → List (List Value)

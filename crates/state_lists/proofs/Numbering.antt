@@ -8,7 +8,7 @@ use Rattle.std.proofs.lemmas.Nat.{mul-le}
 use Rattle.std.proofs.Math.Nat.{mul_assoc, mul_comm, mul-div_left, div-lt_iff_lt-mul, mod-lt, mul-le-mul_left, mul-le-mul_right}
 use Rattle.pw_defs.specs.declared.values.Value.{Value}
 use Rattle.pw_defs.specs.declared.values.Value.TheVariants.{Off}
-use Rattle.intent_defs.specs.States.{all_states, state_count}
+use Rattle.supply_defs.specs.States.{all_states, state_count}
 
 -- pieces of one length
 length_pieces : {X Y : Type 0} (f : X → List Y) (n : ℕ) → ((x : X) → length (f x) ≡ n) → (xs : List X) → length (flat_map f xs) ≡ length xs * n

@@ -1,14 +1,15 @@
 //! Whether a condition holds in a state.
 ghost use Rattle.std.specs.Prelude.{◌≡◌, ◌<◌, true, length};
 ghost use Rattle.std.specs.List.{list_all, list_any};
-ghost use Rattle.intent_defs.specs.Conditions.{exceeds, holds, is_on, same_value, speaks_below};
-ghost use Rattle.intent_defs.specs.States.{value_in};
+ghost use Rattle.supply_defs.specs.Conditions.{holds, speaks_below};
+ghost use Rattle.pw_defs.specs.Values.{exceeds, is_on, same_value};
+ghost use Rattle.supply_defs.specs.States.{value_in};
 
 use pw_defs::{Cond, Value};
 
 /// Whether the condition holds in a state, which has a value for each supply that the condition names.
 #[cycle(eval)]
-#[tactic(auto, using(intent_defs::proofs::Meaning::holding, intent_defs::proofs::Meaning::speaking))]
+#[tactic(auto, using(supply_defs::proofs::Meaning::holding, supply_defs::proofs::Meaning::speaking))]
 pub fn eval(cond: &Cond, values: &[Value]) -> bool
     requires { speaks_below (length values.now) cond.now ≡ true }
     ensures { result ≡ holds (value_in values.now) cond.now }

@@ -3,8 +3,6 @@
 
 mod evaluation;
 mod listing;
-#[cfg(test)]
-mod tests;
 
 pub use evaluation::eval;
 pub use listing::{first_is_least, legal};

@@ -2,10 +2,11 @@
 ghost use Rattle.std.specs.Prelude.{◌≡◌, ◌<◌, ◌↔◌, true, min, length, All, IfOk, Err, List as ListOf, map, slice_index_or, IfErr, []};
 ghost use Rattle.pw_defs.specs.Values.{value_cmp};
 ghost use Rattle.pw_defs.specs.declared.values.Value.{Value};
-ghost use Rattle.base_defs.specs.Members.{IsIn};
-ghost use Rattle.base_defs.specs.Orders.{IsRising, state_cmp};
-ghost use Rattle.intent_defs.specs.Conditions.{speaks_below};
-ghost use Rattle.intent_defs.specs.States.{IsLegal, all_states, legal_states, state_count};
+ghost use Rattle.list_defs.specs.Members.{IsIn};
+ghost use Rattle.list_defs.specs.Orders.{IsRising};
+ghost use Rattle.pw_defs.specs.Values.{state_cmp};
+ghost use Rattle.supply_defs.specs.Conditions.{speaks_below};
+ghost use Rattle.supply_defs.specs.States.{IsLegal, all_states, legal_states, state_count};
 ghost use Rattle.state_lists.specs.Least.{FirstIsLeast};
 
 use crate::evaluation::all_hold;

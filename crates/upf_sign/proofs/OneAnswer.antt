@@ -15,7 +15,7 @@ use Rattle.pw_defs.specs.declared.intent.Want.{Want}
 use Rattle.pw_defs.specs.declared.report.Report.{Report as ReportOf}
 use Rattle.pw_defs.specs.declared.strategies.Strategy.{Strategy}
 use Rattle.pw_defs.specs.declared.supplies.Supply.{Supply}
-use Rattle.base_defs.specs.Orders.{name_cmp}
+use Rattle.list_defs.specs.Orders.{name_cmp}
 use Rattle.signoff_defs.specs.ReportText.{report_text}
 use Rattle.signoff_defs.proofs.InOrder.{put_once}
 use Rattle.line_forms.specs.declared.library_lines.Library.{Library}

@@ -6,9 +6,9 @@ use Rattle.std.proofs.lemmas.List.Elements.{All-map}
 use Rattle.pw_defs.specs.Values.{value_cmp}
 use Rattle.pw_defs.specs.declared.conditions.UnitCond.{UnitCond}
 use Rattle.pw_defs.specs.declared.intent.Intent.{Intent}
-use Rattle.base_defs.specs.Orders.{IsRising}
-use Rattle.intent_defs.specs.Conditions.{speaks_below}
-use Rattle.signoff_defs.specs.Findings.{lists_of, conds_of}
+use Rattle.list_defs.specs.Orders.{IsRising}
+use Rattle.supply_defs.specs.Conditions.{speaks_below}
+use Rattle.checks.specs.LineFindings.{lists_of, conds_of}
 use Rattle.form_intent.specs.Sound.{IsSound}
 
 pub lists_rise : (i : Intent) → IsSound i → All (IsRising value_cmp) (lists_of i)

@@ -4,8 +4,8 @@ use Rattle.pw_defs.specs.declared.design.Design.{Design}
 use Rattle.pw_defs.specs.declared.intent.Intent.{Intent}
 use Rattle.pw_defs.specs.declared.report.Finding.{Finding}
 use Rattle.pw_defs.specs.declared.report.Report.{Report as ReportOf}
-use Rattle.intent_defs.specs.States.{state_count}
-use Rattle.signoff_defs.specs.Findings.{IsReport, lists_of, legal_of}
+use Rattle.supply_defs.specs.States.{state_count}
+use Rattle.checks.specs.LineFindings.{IsReport, lists_of, legal_of}
 use Rattle.signoff_defs.specs.ReportText.{report_text}
 use Rattle.checks.specs.Checked.{HasNoLegal, PassesBound}
 use Rattle.upf_sign.specs.declared.answers.Answer.{Answer}

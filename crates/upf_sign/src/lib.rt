@@ -15,6 +15,3 @@ mod words;
 pub use answers::{Answer, sign_off};
 pub use laws::one_answer;
 pub use runs::run;
-
-#[cfg(test)]
-mod tests;

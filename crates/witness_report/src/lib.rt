@@ -3,7 +3,7 @@
 
 ghost use Rattle.std.specs.Prelude.{◌≡◌, ◌∷◌, ◌++◌, length, All, IfOk, OnOk, Some, codes, ◌+◌, ◌%◌};
 ghost use Rattle.std.specs.List.{flat_map, zip};
-ghost use Rattle.base_defs.specs.Text.{six_digits, value_text, volts};
+ghost use Rattle.text_defs.specs.Text.{six_digits, value_text, volts};
 ghost use Rattle.signoff_defs.specs.ReportText.{HasWholeWitness, boundary_text, count_text, finding_line, finding_text, forced_text, kind_text, report_text, supplies_text, values_text, witness_text};
 
 use itoa::Buffer;
@@ -188,6 +188,3 @@ fn digit(number: u32) -> u8
 {
     b'0' + (number % 10) as u8
 }
-
-#[cfg(test)]
-mod tests;

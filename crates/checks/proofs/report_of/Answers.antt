@@ -1,5 +1,5 @@
 use Rattle.std.proofs.Common.{map, min, sum_by, ap, ◌∙◌}
-use Rattle.design_defs.specs.Chains.{chains}
+use Rattle.checks.specs.LineChains.{chains}
 use Rattle.checks.specs.Ends.{ends_of}
 use Rattle.checks.specs.Judging.{findings_of}
 use Rattle.checks.proofs.Reports.{report_is, sorted_whole}

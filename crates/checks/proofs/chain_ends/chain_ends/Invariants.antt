@@ -1,6 +1,6 @@
 use Rattle.std.proofs.Common.{◌≡◌, ◌++◌, map, drop}
 use Rattle.std.specs.List.{filter_map}
-use Rattle.design_defs.specs.Chains.{chain_of, chains}
+use Rattle.checks.specs.LineChains.{chain_of, chains}
 use Rattle.checks.specs.Ends.{ends_of}
 use Rattle.checks.proofs.chain_ends.chain_ends.Given as goal
 

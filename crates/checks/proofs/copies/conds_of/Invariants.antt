@@ -1,5 +1,5 @@
 use Rattle.std.proofs.Common.{◌≡◌, ◌++◌, map, drop}
-use Rattle.signoff_defs.specs.Findings.{conds_of}
+use Rattle.checks.specs.LineFindings.{conds_of}
 use Rattle.checks.proofs.copies.conds_of.Given as goal
 
 -- those so far and those that are left are all

@@ -1,5 +1,5 @@
 use Rattle.std.proofs.Common.{◌≡◌, ◌++◌, map, drop}
-use Rattle.signoff_defs.specs.Findings.{lists_of}
+use Rattle.checks.specs.LineFindings.{lists_of}
 use Rattle.checks.proofs.copies.lists_of.Given as goal
 
 -- those so far and those that are left are all

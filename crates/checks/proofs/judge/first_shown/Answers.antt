@@ -2,9 +2,9 @@ use Rattle.std.proofs.Common.{◌≡◌, ◌<◌, ℕ, Bool, true, cond, suc, Li
 use Rattle.std.specs.List.{find}
 use Rattle.std.proofs.lemmas.Option.{slice_get-get_or}
 use Rattle.pw_defs.specs.declared.values.State.{State}
-use Rattle.intent_defs.specs.Conditions.{holds}
-use Rattle.intent_defs.specs.States.{value_in}
-use Rattle.signoff_defs.specs.Watches.{isolation_missing}
+use Rattle.supply_defs.specs.Conditions.{holds}
+use Rattle.supply_defs.specs.States.{value_in}
+use Rattle.checks.specs.LineWatches.{isolation_missing}
 use Rattle.checks.proofs.judge.first_shown.Goals as goal
 
 -- where none before it passes, the one that passes is the first

@@ -1,6 +1,6 @@
 use Rattle.std.proofs.Common.{rules, is_lt}
 use Rattle.std.proofs.lemmas.List.Sorted.{ranks_by, answers_always}
-use Rattle.signoff_defs.specs.Findings.{finding_cmp}
+use Rattle.checks.specs.LineFindings.{finding_cmp}
 use Rattle.checks.proofs.Sorting.{finding_cmp_total}
 use Rattle.checks.proofs.report.sort.Goals as goal
 

@@ -1,5 +1,5 @@
 use Rattle.std.proofs.Common.{◌≡◌, Some, true, map, slice_get, sym, ap, ◌∙◌}
-use Rattle.base_defs.specs.Members.{all_differ, same_name}
+use Rattle.list_defs.specs.Members.{all_differ, same_name}
 use Rattle.form_design.specs.Names.{inst_names}
 use Rattle.form_design.specs.Hierarchy.{lines_in}
 use Rattle.form_design.proofs.Fronts.{insts_differ, index_there}

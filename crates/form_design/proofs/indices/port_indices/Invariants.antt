@@ -1,6 +1,6 @@
 use Rattle.std.proofs.Common.{◌≡◌, ◌++◌, map, drop}
 use Rattle.std.specs.List.{list_all}
-use Rattle.base_defs.specs.Members.{all_differ, same_name}
+use Rattle.list_defs.specs.Members.{all_differ, same_name}
 use Rattle.form_design.specs.Names.{port_names}
 use Rattle.form_design.proofs.indices.port_indices.Given as goal
 

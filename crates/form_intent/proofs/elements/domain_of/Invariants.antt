@@ -1,6 +1,6 @@
 use Rattle.std.proofs.Common.{◌≡◌, ◌==◌, map, take, unwrap_or}
 use Rattle.std.specs.List.{enumerate_from}
-use Rattle.base_defs.specs.Members.{place_of}
+use Rattle.list_defs.specs.Members.{place_of}
 use Rattle.form_intent.specs.Intent.{domain_for}
 use Rattle.form_intent.proofs.elements.domain_of.Given as goal
 

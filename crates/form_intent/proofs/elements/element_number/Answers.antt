@@ -1,6 +1,6 @@
 -- A place is below the number of names, which a `u32` counts.
 use Rattle.std.proofs.Common.{◌∙◌, sym, arith}
-use Rattle.base_defs.specs.Members.{same_name}
+use Rattle.list_defs.specs.Members.{same_name}
 use Rattle.form_intent.proofs.PlaceLemmas.{place_of-within}
 use Rattle.form_intent.proofs.elements.element_number.Goals as goal
 

@@ -1,6 +1,6 @@
 -- Each line adds its element, or shows that the elements do not fit.
 use Rattle.std.proofs.Common.{◌∙◌, ◌==◌, sym, ap, arith}
-use Rattle.base_defs.specs.Members.{all_differ}
+use Rattle.list_defs.specs.Members.{all_differ}
 use Rattle.form_intent.specs.Elements.{line_element}
 use Rattle.form_intent.proofs.LineLemmas.{gained}
 use Rattle.form_intent.proofs.ElementLemmas.{all_differ-next, elements_fit-again, elements_fit-all, elements_fit-no_top, found_all}

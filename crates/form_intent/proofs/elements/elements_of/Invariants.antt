@@ -1,6 +1,6 @@
 use Rattle.std.proofs.Common.{◌≡◌, ◌==◌, true, take}
 use Rattle.std.specs.List.{filter_map}
-use Rattle.base_defs.specs.Members.{all_differ}
+use Rattle.list_defs.specs.Members.{all_differ}
 use Rattle.form_intent.specs.Elements.{line_element}
 use Rattle.form_intent.proofs.elements.elements_of.Given as goal
 

@@ -1,6 +1,6 @@
 -- The set answers the first place.
 use Rattle.std.proofs.Common.{◌∙◌, ◌==◌, sym}
-use Rattle.base_defs.proofs.NameLemmas.{place_of-position}
+use Rattle.list_defs.proofs.NameLemmas.{place_of-position}
 use Rattle.form_intent.proofs.elements.place_of.Goals as goal
 
 pub returns-in_err-place : goal.returns-in_err-place

@@ -6,7 +6,7 @@ use Rattle.std.proofs.lemmas.List.Sorted.{length_permutation}
 use Rattle.std.specs.List.{enumerate_from, filter_map, zip}
 use Rattle.pw_defs.specs.declared.supplies.Supply.{Supply}
 use Rattle.pw_defs.specs.declared.values.Value.{Value}
-use Rattle.base_defs.specs.Orders.{IsPutInOrder, name_cmp}
+use Rattle.list_defs.specs.Orders.{IsPutInOrder, name_cmp}
 use Rattle.form_intent.specs.Script.{cond_of, cond_with, domains_made, nets_made, root_list, set_named, sets_made, stated as stated_on, supply_of}
 use Rattle.form_intent.specs.Intent.{domain_for, domain_with}
 use Rattle.form_intent.proofs.AssemblyLemmas.{length-elements-le, names-supplies, supplies-stated, supply}

@@ -1,6 +1,6 @@
 -- A name is found exactly where it has a place.
-use Rattle.base_defs.specs.Members.{same_name}
-use Rattle.base_defs.proofs.NameLemmas.{is_some-place_of}
+use Rattle.list_defs.specs.Members.{same_name}
+use Rattle.list_defs.proofs.NameLemmas.{is_some-place_of}
 use Rattle.form_intent.proofs.made.has.Goals as goal
 
 pub returns : goal.returns

@@ -1,7 +1,7 @@
 -- The names of the lines, and the count of the nets.
 use Rattle.std.proofs.Common.{◌≡◌, ◌∙◌, true, nat_le, ◌&&◌, length, sym, ap, arith}
 use Rattle.std.proofs.lemmas.Bool.{le-leb, lt-leb}
-use Rattle.base_defs.specs.Members.{all_differ, same_name}
+use Rattle.list_defs.specs.Members.{all_differ, same_name}
 use Rattle.form_intent.specs.Script.{nets_made}
 use Rattle.form_intent.specs.Fits.{names_fit}
 use Rattle.form_intent.proofs.ListLemmas.{and_false}

@@ -1,7 +1,7 @@
 -- The states of a line come to its supply alone.
 use Rattle.std.proofs.Common.{◌≡◌, ◌∙◌, List, ◌++◌, Vec, Global, Bor, Some, None, map, sym, ap, arith}
 use Rattle.line_forms.specs.declared.script_lines.StateWords.{StateWords}
-use Rattle.base_defs.specs.Members.{place_of, same_name}
+use Rattle.list_defs.specs.Members.{place_of, same_name}
 use Rattle.form_intent.specs.Script.{states_on}
 use Rattle.form_intent.proofs.PlaceLemmas.{place_of-within, map-set-place_of, map-absent}
 use Rattle.form_intent.proofs.states.put_states.Goals as goal

@@ -5,7 +5,7 @@ use Rattle.std.proofs.lemmas.List.Folds.{list_all_at, list_all_more}
 use Rattle.std.proofs.lemmas.Simd.{map-map}
 use Rattle.line_forms.specs.declared.script_lines.CommandLine.{CommandLine}
 use Rattle.line_forms.specs.declared.script_lines.StateWords.{StateWords}
-use Rattle.base_defs.specs.Members.{all_differ, same_name}
+use Rattle.list_defs.specs.Members.{all_differ, same_name}
 use Rattle.form_intent.specs.Script.{stated, states_of}
 use Rattle.form_intent.specs.Fits.{states_differ}
 use Rattle.form_intent.proofs.PlaceLemmas.{shown-at}

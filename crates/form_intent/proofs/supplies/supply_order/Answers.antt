@@ -1,7 +1,7 @@
 -- The names of the nets differ, and so they do in order.
 use Rattle.std.proofs.Common.{◌∙◌, ap}
-use Rattle.base_defs.specs.Members.{all_differ, same_name}
-use Rattle.base_defs.proofs.NameLemmas.{same_name-symmetric}
+use Rattle.list_defs.specs.Members.{all_differ, same_name}
+use Rattle.list_defs.proofs.NameLemmas.{same_name-symmetric}
 use Rattle.form_intent.proofs.ListLemmas.{all_differ-IsPermutation}
 use Rattle.form_intent.proofs.supplies.supply_order.Goals as goal
 

@@ -2,8 +2,8 @@ use Rattle.std.proofs.Common.{◌≡◌, ◌≤◌, ◌<◌, ◌+◌, ℕ, lengt
 use Rattle.std.proofs.lemmas.List.{take_more_set, take_all}
 use Rattle.std.proofs.lemmas.Bool.{iff_false}
 use Rattle.diagram_defs.specs.Diagrams.{kid, IsSet}
-use Rattle.diagram_defs.proofs.Meaning.{IsKid-kid}
-use Rattle.lift_project.proofs.LeastLemmas.{LeadsLeast, LeadsLeast_start, LeadsLeast_more, LeadsLeast_end, inner_number, last_number}
+use Rattle.diagram_defs.proofs.Meaning.{IsKid-kid, inner_number, last_number}
+use Rattle.lift_project.proofs.LeastLemmas.{LeadsLeast, LeadsLeast_start, LeadsLeast_more, LeadsLeast_end}
 use Rattle.lift_project.proofs.least.first.Goals as goal
 
 pub loop-level-init : goal.loop-level-init

@@ -1,5 +1,5 @@
 use Rattle.std.proofs.Common.{arith}
-use Rattle.lift_project.proofs.LeastLemmas.{some_kid}
+use Rattle.diagram_defs.proofs.Meaning.{some_kid}
 use Rattle.lift_project.proofs.least.least_value.Goals as goal
 
 pub unreachable-requires : goal.unreachable-requires

@@ -1,21 +1,19 @@
 use Rattle.std.proofs.Common.{◌≡◌, ◌*◌, ◌%◌, ◌^◌, ℕ, List, Bool, length, ap, ◌∙◌, arith}
 use Rattle.diagram_defs.specs.Diagrams.{member, IsSet}
-use Rattle.diagram_defs.specs.Parts.{GrowsBy, IsPartOf}
+use Rattle.diagram_defs.specs.Parts.{IsPartOfSome, GrowsBy, IsPartOf}
 use Rattle.diagram_defs.specs.Sets.{and_set, literal_set}
 use Rattle.diagram_defs.proofs.Growth.{IsSet_grows}
-use Rattle.diagram_defs.proofs.PartLemmas.{GrowsBy_none, GrowsBy_step, GrowsBy_wider, passed_cause, refused_wider, same_made}
-use Rattle.lift_project.specs.Entries.{value_set, held_set, IsStep, IsPartOfSome}
+use Rattle.diagram_defs.proofs.PartLemmas.{GrowsBy_none, GrowsBy_step, GrowsBy_wider}
+use Rattle.lift_project.specs.Entries.{value_set, held_set, IsStep}
 use Rattle.lift_project.specs.Entries.IsStep.{alone, both}
 use Rattle.lift_project.proofs.EntryLemmas.{shifted, literal_value, listed_part, listed_grown, held_meets, held_none}
+use Rattle.diagram_defs.proofs.Yielding.{Yields_passed, Makes_last}
 use Rattle.lift_project.proofs.lifts.held.Goals as goal
 use Rattle.lift_project.proofs.lifts.held.Goals.{After-literal, In_ok-value}
 
-pub returns-then-is_empty-clause-number : goal.returns-then-is_empty-clause-number
-returns-then-is_empty-clause-number c =
-    held_none c.args.into.now c.args.level c.args.index c.args.n (c.is_empty.ensures.0 c.if-is_empty.true)
-
-pub returns-then-is_empty-clause-grows : goal.returns-then-is_empty-clause-grows
-returns-then-is_empty-clause-grows c = GrowsBy_none _ c.args.into.now c.nodes-count.ensures.pool
+pub returns-then-is_empty : goal.returns-then-is_empty
+returns-then-is_empty c =
+    (GrowsBy_none _ c.args.into.now c.nodes-count.ensures.pool, held_none c.args.into.now c.args.level c.args.index c.args.n (c.is_empty.ensures.0 c.if-is_empty.true))
 
 -- the mask has the bit of the index alone
 mask : (c : After-literal) → 1 * 2 ^ c.args.index % 18446744073709551616 ≡ 2 ^ c.args.index
@@ -30,42 +28,30 @@ steps c =
     listed_part _ _ (value_set old.arities c.args.level c.args.index) alone (λ state. ap (λ (m : ℕ). literal_set old c.args.level m state) (mask c) ∙ literal_value old c.args.level c.args.index state) (length old.arities)
 
 grown : (c : After-literal) → GrowsBy (IsPartOfSome (length c.args.into.now.arities) (IsStep c.args.into.now.arities c.args.level c.args.index (member c.args.into.now.nodes c.args.n))) c.args.into.now c.literal.new.self
-grown c = GrowsBy_wider _ _ c.args.into.now c.literal.new.self (steps c) c.literal.ensures.grows
+grown c = GrowsBy_wider _ _ c.args.into.now c.literal.new.self (steps c) c.literal.ensures.0
 
-pub returns-in_err-value-clause-grows : goal.returns-in_err-value-clause-grows
-returns-in_err-value-clause-grows c = grown (goal.at.returns-in_err-value-clause-grows c).After-literal
-
-pub returns-in_err-value-clause-cause : goal.returns-in_err-value-clause-cause
-returns-in_err-value-clause-cause c =
-    passed_cause _ _ c.literal.new.self c.from_residual.result c.in_err-value.field-0.0 c.from_residual.ensures.1 (steps (goal.at.returns-in_err-value-clause-cause c).After-literal) c.in_err-value.ensures.cause
+pub returns-in_err-value : goal.returns-in_err-value
+returns-in_err-value c =
+    Yields_passed _ c.from_residual.result c.in_err-value.field-0.0 c.from_residual.ensures.1 (GrowsBy_none _ c.args.into.now c.nodes-count.ensures.pool) (steps (goal.at.returns-in_err-value c).After-literal) c.in_err-value.ensures
 
 second : (c : In_ok-value) → IsSet c.literal.new.self 0 c.args.n
-second c = IsSet_grows c.args.into.now c.literal.new.self 0 c.args.n c.literal.ensures.grows.grows c.requires.number
+second c = IsSet_grows c.args.into.now c.literal.new.self 0 c.args.n c.literal.ensures.0.grows c.requires.number
 
 pub and-requires : goal.and-requires
 and-requires c =
-    record { level = 0; first = c.in_ok-value.ensures.number.in_level; second = second (goal.at.and-requires c).In_ok-value }
+    record { level = 0; first = c.in_ok-value.ensures.1.in_level; second = second (goal.at.and-requires c).In_ok-value }
 
 same : (c : In_ok-value) (state : List ℕ) → and_set c.literal.new.self.nodes c.in_ok-value.value c.args.n state ≡ held_set c.args.into.now.arities c.args.level c.args.index (member c.args.into.now.nodes c.args.n) state
 same c =
-    held_meets c.args.into.now c.literal.new.self c.args.level c.args.index _ c.in_ok-value.value c.args.n (mask (goal.at-In_ok-value c).After-literal) c.literal.ensures.grows.grows c.requires.number c.in_ok-value.ensures.number
+    held_meets c.args.into.now c.literal.new.self c.args.level c.args.index _ c.in_ok-value.value c.args.n (mask (goal.at-In_ok-value c).After-literal) c.literal.ensures.0.grows c.requires.number c.in_ok-value.ensures.1
 
 further : (c : In_ok-value) (l : ℕ) (part : List ℕ → Bool) → IsPartOf (length c.literal.new.self.arities) 0 (and_set c.literal.new.self.nodes c.in_ok-value.value c.args.n) l part → IsPartOfSome (length c.args.into.now.arities) (IsStep c.args.into.now.arities c.args.level c.args.index (member c.args.into.now.nodes c.args.n)) l part
 further c =
     let old = c.args.into.now in
-    listed_grown _ _ (held_set old.arities c.args.level c.args.index (member old.nodes c.args.n)) both (same c) old c.literal.new.self c.literal.ensures.grows.grows
+    listed_grown _ _ (held_set old.arities c.args.level c.args.index (member old.nodes c.args.n)) both (same c) old c.literal.new.self c.literal.ensures.0.grows
 
-pub returns-clause-number : goal.returns-clause-number
-returns-clause-number c =
-    let at = (goal.at.returns-clause-number c).In_ok-value in
-    same_made c.literal.new.self c.and.new.self 0 _ _ (same at) c.and.result (c.and.ensures.number 0 c.in_ok-value.ensures.number.in_level (second at))
-
-pub returns-clause-grows : goal.returns-clause-grows
-returns-clause-grows c =
-    let at = goal.at.returns-clause-grows c in
-    GrowsBy_step _ _ c.args.into.now c.literal.new.self c.and.new.self (grown at.After-literal) (further at.In_ok-value) (c.and.ensures.grows 0 c.in_ok-value.ensures.number.in_level (second at.In_ok-value))
-
-pub returns-clause-cause : goal.returns-clause-cause
-returns-clause-cause c =
-    let at = (goal.at.returns-clause-cause c).In_ok-value in
-    refused_wider _ _ c.and.new.self c.and.result (further at) (c.and.ensures.cause 0 c.in_ok-value.ensures.number.in_level (second at))
+pub returns : goal.returns
+returns c =
+    let stage = goal.at.returns c in
+    let at = stage.In_ok-value in
+    Makes_last 0 _ _ c.and.result (grown stage.After-literal) (further at) (same at) (c.and.ensures 0 c.in_ok-value.ensures.1.in_level (second at))

@@ -1,5 +1,5 @@
 use Rattle.std.proofs.Common.{◌≤◌, ◌<◌, ◌-◌, List, length, get_or, sym, ap, arith}
-use Rattle.pw_defs.specs.declared.model.KeptNode.{KeptNode}
+use Rattle.plain_lists.specs.declared.kept.KeptNode.{KeptNode}
 use Rattle.diagram_defs.specs.Diagrams.IsKid.{node}
 use Rattle.lift_project.specs.Lifts.{shape_of}
 use Rattle.lift_project.proofs.MarkLemmas.{kept_shape}

@@ -5,20 +5,21 @@ use Rattle.std.proofs.lemmas.Option.{slice_get-get_or, same_Some}
 use Rattle.std.proofs.lemmas.List.{get_or-replicate, length-replicate, length-set}
 use Rattle.diagram_defs.specs.Diagrams.{Diagram, IsNumberFor}
 use Rattle.diagram_defs.specs.Parts.{GrowsBy}
-use Rattle.diagram_defs.proofs.PartLemmas.{GrowsBy_none, GrowsBy_step, passed_cause}
+use Rattle.diagram_defs.proofs.PartLemmas.{GrowsBy_none, GrowsBy_step}
 use Rattle.lift_project.specs.Lifts.{shapes_of, lifted_set}
 use Rattle.lift_project.specs.Entries.{IsAllowed}
 use Rattle.lift_project.specs.Marks.{IsMarked}
 use Rattle.lift_project.specs.Lifted.{AreKidsLifted}
 use Rattle.lift_project.proofs.LiftedLemmas.{AreLifted, lifted_none, allowed_behind, kids_lifted, lifted_more, lifted_skipped}
+use Rattle.diagram_defs.proofs.Yielding.{Yields_passed, Yields_memory}
 use Rattle.lift_project.proofs.lifts.lift.Goals as goal
 use Rattle.lift_project.proofs.lifts.lift.Goals.{After-as_slice, then-index+in_ok-set, else-index}
 
-pub returns-in_err-marks-clause-grows : goal.returns-in_err-marks-clause-grows
-returns-in_err-marks-clause-grows c = GrowsBy_none _ c.args.into.now c.allocator-alloc.ensures
+pub returns-in_err-marks : goal.returns-in_err-marks
+returns-in_err-marks c = Yields_memory _ c.from_residual.result c.from_residual.ensures.1 (GrowsBy_none _ c.args.into.now c.allocator-alloc.ensures)
 
-pub returns-in_err-sets-clause-grows : goal.returns-in_err-sets-clause-grows
-returns-in_err-sets-clause-grows c = GrowsBy_none _ c.args.into.now c.allocator-alloc.ensures
+pub returns-in_err-sets : goal.returns-in_err-sets
+returns-in_err-sets c = Yields_memory _ c.from_residual-in_err-sets.result c.from_residual-in_err-sets.ensures.1 (GrowsBy_none _ c.args.into.now c.allocator-alloc.ensures)
 
 pub loop-n-init : goal.loop-n-init
 loop-n-init c =
@@ -54,13 +55,9 @@ parts : (c : After-as_slice) (l : ℕ) (part : List ℕ → Bool) → IsAllowed 
 parts c =
     allowed_behind c.args.kept.now c.requires.nodes c.args.places.now c.args.node c.in_ok-marks.marks.items c.in_ok-marks.ensures c.args.into.now c.loop-n.into c.requires.places c.loop-n.invariant.grows.grows c.level_of-level.result c.loop-n.n c.requires.number (marked c) c.loop-n.auto.n c.level_of-level.ensures
 
-pub returns-in_err-set-clause-grows : goal.returns-in_err-set-clause-grows
-returns-in_err-set-clause-grows c =
-    GrowsBy_step _ _ c.args.into.now c.loop-n.into c.number_set.new.into c.loop-n.invariant.grows (parts (goal.at.returns-in_err-set-clause-grows c).After-as_slice) c.number_set.ensures.grows
-
-pub returns-in_err-set-clause-cause : goal.returns-in_err-set-clause-cause
-returns-in_err-set-clause-cause c =
-    passed_cause _ _ c.number_set.new.into c.from_residual-in_err-set.result c.in_err-set.field-0.0 c.from_residual-in_err-set.ensures.1 (parts (goal.at.returns-in_err-set-clause-cause c).After-as_slice) c.in_err-set.ensures.cause
+pub returns-in_err-set : goal.returns-in_err-set
+returns-in_err-set c =
+    Yields_passed _ c.from_residual-in_err-set.result c.in_err-set.field-0.0 c.from_residual-in_err-set.ensures.1 c.loop-n.invariant.grows (parts (goal.at.returns-in_err-set c).After-as_slice) c.in_err-set.ensures
 
 pub loop-n-preserved : goal.loop-n-preserved
 loop-n-preserved c = elim c.if-index.branch [
@@ -76,8 +73,8 @@ loop-n-preserved c = elim c.if-index.branch [
       let wide : n < length c.loop-n.sets.items = let size = c.loop-n.invariant.size in omega arith in
       let mark : IsMarked marks n = slice_get-get_or marks n c.index.result.now room ∙ ap (λ (b : Bool). Some b) (sym c.index.ensures ∙ w.if-index.true) in
       let behind = allowed_behind kept c.requires.nodes c.args.places.now c.args.node marks c.in_ok-marks.ensures old mid c.requires.places c.loop-n.invariant.grows.grows w.level_of-level.result n c.requires.number mark c.loop-n.auto.n w.level_of-level.ensures in
-      let grown = GrowsBy_step (IsAllowed old.arities (shapes_of kept) c.args.places.now c.args.node) _ old mid w.number_set.new.into c.loop-n.invariant.grows behind w.number_set.ensures.grows in
-      let more = lifted_more kept c.args.places.now marks old mid w.number_set.new.into w.level_of-level.result n w.in_ok-set.set c.loop-n.sets.items c.loop-n.invariant.grows.grows w.number_set.ensures.grows.grows c.loop-n.auto.n wide w.level_of-level.ensures c.loop-n.invariant.lifted w.in_ok-set.ensures.number in
+      let grown = GrowsBy_step (IsAllowed old.arities (shapes_of kept) c.args.places.now c.args.node) _ old mid w.number_set.new.into c.loop-n.invariant.grows behind w.number_set.ensures.0 in
+      let more = lifted_more kept c.args.places.now marks old mid w.number_set.new.into w.level_of-level.result n w.in_ok-set.set c.loop-n.sets.items c.loop-n.invariant.grows.grows w.number_set.ensures.0.grows c.loop-n.auto.n wide w.level_of-level.ensures c.loop-n.invariant.lifted w.in_ok-set.ensures.1 in
       record {
         grows = subst (GrowsBy (IsAllowed old.arities (shapes_of kept) c.args.places.now c.args.node) old) (sym w.into-is) grown;
         size = ap (λ v. length v.items) w.sets-is ∙ length-set c.loop-n.sets.items n w.in_ok-set.set ∙ c.loop-n.invariant.size;
@@ -100,12 +97,12 @@ loop-n-preserved c = elim c.if-index.branch [
       }
 ]
 
-pub returns-clause-number : goal.returns-clause-number
-returns-clause-number c =
+pub returns : goal.returns
+returns c =
     let f = c.in_ok-marks.marks.ok.0 in
     let e = c.len-n-end.ensures in
     let count = c.in_ok-marks.ensures.size in
     let last = c.loop-n-test.false in
     let size = c.loop-n.invariant.size in
     let read = c.index-2.ensures ∙ get_or_default_zero c.loop-n.sets.items c.args.node c.index-2.result.now (omega arith) in
-    subst (IsNumberFor c.loop-n.into 0 (lifted_set c.args.into.now.arities (shapes_of c.args.kept.now) c.args.places.now c.args.node)) (sym read) (c.loop-n.invariant.lifted.each c.args.node 0 (omega arith) c.in_ok-marks.ensures.itself c.requires.number)
+    (c.loop-n.invariant.grows, subst (IsNumberFor c.loop-n.into 0 (lifted_set c.args.into.now.arities (shapes_of c.args.kept.now) c.args.places.now c.args.node)) (sym read) (c.loop-n.invariant.lifted.each c.args.node 0 (omega arith) c.in_ok-marks.ensures.itself c.requires.number))

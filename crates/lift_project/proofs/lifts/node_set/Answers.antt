@@ -1,16 +1,17 @@
 use Rattle.std.proofs.Common.{◌≡◌, ◌<◌, ◌+◌, ◌-◌, ℕ, Bool, List, length, get_or, drop, refl, sym, ap, ◌∙◌, subst, arith}
-use Rattle.pw_defs.specs.declared.model.KeptNode.{KeptNode}
-use Rattle.pw_defs.specs.declared.model.Place.{Place}
+use Rattle.plain_lists.specs.declared.kept.KeptNode.{KeptNode}
+use Rattle.plain_lists.specs.declared.kept.Place.{Place}
 use Rattle.diagram_defs.specs.Diagrams.{member, kid, kids_of, IsNumberFor}
 use Rattle.diagram_defs.specs.Diagrams.IsKid.{empty}
-use Rattle.diagram_defs.specs.Parts.{GrowsBy, IsPartOf}
+use Rattle.diagram_defs.specs.Parts.{IsPartOfSome, GrowsBy, IsPartOf}
 use Rattle.diagram_defs.specs.Sets.{or_set}
 use Rattle.diagram_defs.proofs.Meaning.{member-empty}
 use Rattle.diagram_defs.proofs.Growth.{IsSet_grows, IsNumberFor_grows, IsNumberFor_same}
-use Rattle.diagram_defs.proofs.PartLemmas.{GrowsBy_none, GrowsBy_step, passed_cause}
+use Rattle.diagram_defs.proofs.PartLemmas.{GrowsBy_none, GrowsBy_step}
 use Rattle.lift_project.specs.Lifts.{shapes_of, lifted_set}
-use Rattle.lift_project.specs.Entries.{IsStep, IsPartOfSome, IsAllowed, first_alternatives, alternative_set}
+use Rattle.lift_project.specs.Entries.{IsStep, IsAllowed, first_alternatives, alternative_set}
 use Rattle.lift_project.proofs.LiftLemmas.{Stands, stands, node_within, held_parts, held_same, or_parts, or_same, lifted_any}
+use Rattle.diagram_defs.proofs.Yielding.{Yields_passed}
 use Rattle.lift_project.proofs.lifts.node_set.Goals as goal
 use Rattle.lift_project.proofs.lifts.node_set.Goals.{After-index-places-level, After-as_slice-in-loop-v, After-held, In_ok-alternative, After-or}
 
@@ -90,22 +91,19 @@ parts c l part p =
 
 grown : (c : After-held) → GrowsBy (IsAllowed c.args.into.now.arities (shapes_of c.args.kept.now) (drop c.args.level c.args.places.now) c.args.n) c.args.into.now c.held.new.into
 grown c =
-    GrowsBy_step _ _ c.args.into.now c.loop-v.into c.held.new.into c.loop-v.invariant.grows (parts c) c.held.ensures.grows
+    GrowsBy_step _ _ c.args.into.now c.loop-v.into c.held.new.into c.loop-v.invariant.grows (parts c) c.held.ensures.0
 
-pub returns-in_err-alternative-clause-grows : goal.returns-in_err-alternative-clause-grows
-returns-in_err-alternative-clause-grows c = grown (goal.at.returns-in_err-alternative-clause-grows c).After-held
-
-pub returns-in_err-alternative-clause-cause : goal.returns-in_err-alternative-clause-cause
-returns-in_err-alternative-clause-cause c =
-    passed_cause _ _ c.held.new.into c.from_residual.result c.in_err-alternative.field-0.0 c.from_residual.ensures.1 (parts (goal.at.returns-in_err-alternative-clause-cause c).After-held) c.in_err-alternative.ensures.cause
+pub returns-in_err-alternative : goal.returns-in_err-alternative
+returns-in_err-alternative c =
+    Yields_passed _ c.from_residual.result c.in_err-alternative.field-0.0 c.from_residual.ensures.1 c.loop-v.invariant.grows (parts (goal.at.returns-in_err-alternative c).After-held) c.in_err-alternative.ensures
 
 one : (c : In_ok-alternative) → IsNumberFor c.held.new.into 0 (alternative_set c.args.into.now.arities (shapes_of c.args.kept.now) c.index-places-level.result (drop (c.args.level + 1) c.args.places.now) c.args.n c.loop-v.v) c.in_ok-alternative.alternative
 one c =
     let at_value = (goal.at-In_ok-alternative c).After-as_slice-in-loop-v in
-    IsNumberFor_same c.held.new.into 0 _ _ c.in_ok-alternative.alternative (held_same c.args.into.now (shapes_of c.args.kept.now) c.index-places-level.result (drop (c.args.level + 1) c.args.places.now) c.args.n c.loop-v.v (low at_value) c.loop-v.into c.loop-v.invariant.grows.grows (get_or c.as_slice-in-loop-v.result.now c.loop-v.v 0) _ (the_index at_value) (child at_value)) c.in_ok-alternative.ensures.number
+    IsNumberFor_same c.held.new.into 0 _ _ c.in_ok-alternative.alternative (held_same c.args.into.now (shapes_of c.args.kept.now) c.index-places-level.result (drop (c.args.level + 1) c.args.places.now) c.args.n c.loop-v.v (low at_value) c.loop-v.into c.loop-v.invariant.grows.grows (get_or c.as_slice-in-loop-v.result.now c.loop-v.v 0) _ (the_index at_value) (child at_value)) c.in_ok-alternative.ensures.1
 
 before : (c : In_ok-alternative) → IsNumberFor c.held.new.into 0 (first_alternatives c.args.into.now.arities (shapes_of c.args.kept.now) c.index-places-level.result (drop (c.args.level + 1) c.args.places.now) c.args.n c.loop-v.v) c.loop-v.found
-before c = IsNumberFor_grows c.loop-v.into c.held.new.into 0 _ c.loop-v.found c.held.ensures.grows.grows c.loop-v.invariant.found
+before c = IsNumberFor_grows c.loop-v.into c.held.new.into 0 _ c.loop-v.found c.held.ensures.0.grows c.loop-v.invariant.found
 
 pub or-requires : goal.or-requires
 or-requires c =
@@ -123,15 +121,13 @@ united : (c : After-or) → GrowsBy (IsAllowed c.args.into.now.arities (shapes_o
 united c =
     let stage = goal.at-After-or c in
     let at = stage.In_ok-alternative in
-    GrowsBy_step _ _ c.args.into.now c.held.new.into c.or.new.self (grown stage.After-held) (further at) (c.or.ensures.grows 0 (before at).in_level (one at).in_level)
+    GrowsBy_step _ _ c.args.into.now c.held.new.into c.or.new.self (grown stage.After-held) (further at) (c.or.ensures 0 (before at).in_level (one at).in_level).0
 
-pub returns-in_err-found-clause-grows : goal.returns-in_err-found-clause-grows
-returns-in_err-found-clause-grows c = united (goal.at.returns-in_err-found-clause-grows c).After-or
-
-pub returns-in_err-found-clause-cause : goal.returns-in_err-found-clause-cause
-returns-in_err-found-clause-cause c =
-    let at = (goal.at.returns-in_err-found-clause-cause c).In_ok-alternative in
-    passed_cause _ _ c.or.new.self c.from_residual-in_err-found.result c.in_err-found.field-0.0 c.from_residual-in_err-found.ensures.1 (further at) (c.in_err-found.ensures.cause 0 (before at).in_level (one at).in_level)
+pub returns-in_err-found : goal.returns-in_err-found
+returns-in_err-found c =
+    let stage = goal.at.returns-in_err-found c in
+    let at = stage.In_ok-alternative in
+    Yields_passed _ c.from_residual-in_err-found.result c.in_err-found.field-0.0 c.from_residual-in_err-found.ensures.1 (grown stage.After-held) (further at) (c.in_err-found.ensures 0 (before at).in_level (one at).in_level)
 
 pub loop-v-preserved : goal.loop-v-preserved
 loop-v-preserved c =
@@ -139,15 +135,15 @@ loop-v-preserved c =
     let at = stage.In_ok-alternative in
     record {
       grows = united stage.After-or;
-      found = IsNumberFor_same c.or.new.self 0 _ _ c.in_ok-found.found (or_same c.args.into.now (shapes_of c.args.kept.now) c.index-places-level.result (drop (c.args.level + 1) c.args.places.now) c.args.n c.loop-v.v (low stage.After-as_slice-in-loop-v) c.held.new.into (grown stage.After-held).grows c.loop-v.found c.in_ok-alternative.alternative (before at) (one at)) (c.in_ok-found.ensures.number 0 (before at).in_level (one at).in_level);
+      found = IsNumberFor_same c.or.new.self 0 _ _ c.in_ok-found.found (or_same c.args.into.now (shapes_of c.args.kept.now) c.index-places-level.result (drop (c.args.level + 1) c.args.places.now) c.args.n c.loop-v.v (low stage.After-as_slice-in-loop-v) c.held.new.into (grown stage.After-held).grows c.loop-v.found c.in_ok-alternative.alternative (before at) (one at)) (c.in_ok-found.ensures 0 (before at).in_level (one at).in_level).1;
     }
 
-pub returns-clause-number : goal.returns-clause-number
-returns-clause-number c =
-    let at = here (goal.at.returns-clause-number c).After-index-places-level in
+pub returns : goal.returns
+returns c =
+    let at = here (goal.at.returns c).After-index-places-level in
     let old = c.args.into.now in
     let nodes = shapes_of c.args.kept.now in
     let end : c.loop-v.v ≡ get_or c.args.kept.now.arities c.args.level 0 = let wide = at.wide in let last = c.loop-v-test.false in omega arith in
     let all = lifted_any old.arities nodes c.index-places-level.result (drop (c.args.level + 1) c.args.places.now) c.args.n (get_or c.args.kept.now.arities c.args.level 0) (ap length at.kids_are ∙ at.wide) at.placed in
     let found = subst (λ (k : ℕ). IsNumberFor c.loop-v.into 0 (first_alternatives old.arities nodes c.index-places-level.result (drop (c.args.level + 1) c.args.places.now) c.args.n k) c.loop-v.found) end c.loop-v.invariant.found in
-    subst (λ (places : List Place). IsNumberFor c.loop-v.into 0 (lifted_set old.arities nodes places c.args.n) c.loop-v.found) (sym at.behind) (IsNumberFor_same c.loop-v.into 0 _ _ c.loop-v.found all found)
+    (c.loop-v.invariant.grows, subst (λ (places : List Place). IsNumberFor c.loop-v.into 0 (lifted_set old.arities nodes places c.args.n) c.loop-v.found) (sym at.behind) (IsNumberFor_same c.loop-v.into 0 _ _ c.loop-v.found all found))

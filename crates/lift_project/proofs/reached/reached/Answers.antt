@@ -2,7 +2,7 @@ use Rattle.std.proofs.Common.{◌≡◌, ◌≤◌, ◌<◌, ◌-◌, ℕ, List,
 use Rattle.std.proofs.lemmas.Bool.{false≢true}
 use Rattle.std.proofs.lemmas.List.{with_items_is}
 use Rattle.std.proofs.lemmas.Option.{slice_get-get_or, same_Some}
-use Rattle.pw_defs.specs.declared.model.KeptNode.{KeptNode}
+use Rattle.plain_lists.specs.declared.kept.KeptNode.{KeptNode}
 use Rattle.lift_project.specs.Lifts.{shapes_of, shape_of}
 use Rattle.lift_project.specs.Marks.{IsMarked, MarksKids}
 use Rattle.lift_project.proofs.MarkLemmas.{number_below, kept_shape, kids_within, AreReachedDown, down_more, down_skipped}

@@ -7,7 +7,7 @@ use Rattle.diagram_defs.proofs.PartLemmas.{GrowsBy_wider, passed_cause}
 use Rattle.state_build.specs.declared.levels.ValueTest.TheVariants as tests
 use Rattle.state_build.specs.Built.{built_set}
 use Rattle.state_build.specs.ValueTests.{chosen_set}
-use Rattle.state_build.proofs.Lowering.{whole_parts, local_made}
+use Rattle.diagram_defs.proofs.LocalSets.{whole_parts, local_made}
 use Rattle.state_build.proofs.Pairing.{level_in}
 use Rattle.state_build.proofs.Singles.{list_read, chosen_is}
 use Rattle.state_build.proofs.conditions.is_at.Goals as goal

@@ -1,6 +1,6 @@
 use Rattle.std.proofs.Common.{◌≡◌, ◌<◌, ◌+◌, ℕ, Bool, List, ◌∷◌, length, get_or, subst, sym, ap, ◌∙◌, arith, slice_index, slice_index_or, Result, IfOk, Ok, Err}
 use Rattle.pw_defs.specs.declared.values.Value.TheVariants.{Off}
-use Rattle.pw_defs.specs.declared.faults.DiagFault.{DiagFault}
+use Rattle.plain_lists.specs.declared.faults.DiagFault.{DiagFault}
 use Rattle.diagram_defs.specs.Diagrams.{IsNumberFor, AreKidsFor}
 use Rattle.diagram_defs.specs.Parts.{GrowsBy, IsPartOf}
 use Rattle.diagram_defs.specs.Sets.{case_set}
@@ -9,6 +9,7 @@ use Rattle.diagram_defs.proofs.Growth.{IsNumberFor_same}
 use Rattle.diagram_defs.proofs.Steps.{AreKids_for, AreKidsSo, AreKidsSo_none, AreKidsSo_more, AreKidsSo_all, kids_number, kids_parts, value_parts}
 use Rattle.state_build.specs.ValueTests.{guarded_set, chosen_set, passes}
 use Rattle.state_build.proofs.Tested.{AreRests_tested, tested_behind}
+use Rattle.diagram_defs.proofs.Yielding.{value_of, reason_of}
 use Rattle.state_build.proofs.levels.chosen.Goals as goal
 use Rattle.state_build.proofs.levels.chosen.Goals.{After-guarded, After-as_slice, After-case}
 
@@ -80,12 +81,12 @@ made c (Ok n) is =
 made c (Err e) is = tt
 
 pub returns-clause-number : goal.returns-clause-number
-returns-clause-number c = made (goal.at.returns-clause-number c).After-case c.case.result c.case.ensures.number
+returns-clause-number c = made (goal.at.returns-clause-number c).After-case c.case.result (value_of _ _ c.case.result c.case.ensures)
 
 pub returns-clause-grows : goal.returns-clause-grows
 returns-clause-grows c =
-    GrowsBy_step _ _ c.args.pool.now c.loop-value.pool c.case.new.self c.loop-value.invariant.grows (case_parts (goal.at.returns-clause-grows c).After-case) c.case.ensures.grows
+    GrowsBy_step _ _ c.args.pool.now c.loop-value.pool c.case.new.self c.loop-value.invariant.grows (case_parts (goal.at.returns-clause-grows c).After-case) c.case.ensures.0
 
 pub returns-clause-cause : goal.returns-clause-cause
 returns-clause-cause c =
-    refused_wider _ _ c.case.new.self c.case.result (case_parts (goal.at.returns-clause-cause c).After-case) c.case.ensures.cause
+    refused_wider _ _ c.case.new.self c.case.result (case_parts (goal.at.returns-clause-cause c).After-case) (reason_of _ _ c.case.result c.case.ensures)

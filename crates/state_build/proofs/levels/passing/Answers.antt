@@ -7,6 +7,7 @@ use Rattle.diagram_defs.specs.Parts.{GrowsBy, IsPartOf}
 use Rattle.diagram_defs.proofs.PartLemmas.{GrowsBy_step, GrowsBy_wider, passed_cause, refused_wider, same_made}
 use Rattle.state_build.specs.ValueTests.{chosen_set, passing_set, passes}
 use Rattle.state_build.proofs.Tested.{tested_parts, tested_grown, tested_grown_parts}
+use Rattle.diagram_defs.proofs.Yielding.{value_of, reason_of}
 use Rattle.state_build.proofs.levels.passing.Goals as goal
 use Rattle.state_build.proofs.levels.passing.Goals.{After-chosen, After-widen}
 
@@ -45,13 +46,13 @@ parts c =
 
 pub returns-clause-number : goal.returns-clause-number
 returns-clause-number c =
-    same_made c.chosen.new.pool c.widen.new.self c.args.level _ _ (same (goal.at.returns-clause-number c).After-widen) c.widen.result c.widen.ensures.number
+    same_made c.chosen.new.pool c.widen.new.self c.args.level _ _ (same (goal.at.returns-clause-number c).After-widen) c.widen.result (value_of _ _ c.widen.result c.widen.ensures)
 
 pub returns-clause-grows : goal.returns-clause-grows
 returns-clause-grows c =
     let at = goal.at.returns-clause-grows c in
-    GrowsBy_step _ _ c.args.pool.now c.chosen.new.pool c.widen.new.self (chosen_grown at.After-chosen) (parts at.After-widen) c.widen.ensures.grows
+    GrowsBy_step _ _ c.args.pool.now c.chosen.new.pool c.widen.new.self (chosen_grown at.After-chosen) (parts at.After-widen) c.widen.ensures.0
 
 pub returns-clause-cause : goal.returns-clause-cause
 returns-clause-cause c =
-    refused_wider _ _ c.widen.new.self c.widen.result (parts (goal.at.returns-clause-cause c).After-widen) c.widen.ensures.cause
+    refused_wider _ _ c.widen.new.self c.widen.result (parts (goal.at.returns-clause-cause c).After-widen) (reason_of _ _ c.widen.result c.widen.ensures)

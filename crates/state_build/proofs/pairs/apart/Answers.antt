@@ -1,7 +1,8 @@
 use Rattle.std.proofs.Common.{◌≡◌, ℕ, sym, arith, nat_cmp, Equal}
 use Rattle.std.proofs.lemmas.Bool.Decides.{nat_tests}
 use Rattle.diagram_defs.proofs.PartLemmas.{GrowsBy_none, IsPartOf_same, same_grown, refused_wider}
-use Rattle.state_build.proofs.Lowering.{local_same, same_local}
+use Rattle.diagram_defs.proofs.LocalSets.{local_same}
+use Rattle.state_build.proofs.Lowering.{same_local}
 use Rattle.state_build.proofs.Pairing.{apart_above, apart_below, apart_none}
 use Rattle.state_build.proofs.pairs.apart.Goals as goal
 
@@ -20,7 +21,7 @@ returns-in-Less-clause-cause c =
 
 pub returns-in-Equal-clause-number : goal.returns-in-Equal-clause-number
 returns-in-Equal-clause-number c =
-    local_same c.args.pool.now _ _ c.nothing.result.level c.nothing.result.number (λ state. sym (apart_none c.args.pool.now.arities c.args.lists.now c.args.low c.args.high c.args.above state (tied c.args.low c.args.high c.in-Equal.ensures))) c.nothing.ensures.number
+    local_same c.args.pool.now _ _ c.nothing.result (λ state. sym (apart_none c.args.pool.now.arities c.args.lists.now c.args.low c.args.high c.args.above state (tied c.args.low c.args.high c.in-Equal.ensures))) c.nothing.ensures.number
 
 pub returns-in-Equal-clause-grows : goal.returns-in-Equal-clause-grows
 returns-in-Equal-clause-grows c = GrowsBy_none _ c.args.pool.now c.nothing.ensures.pool

@@ -8,7 +8,7 @@ use Rattle.diagram_defs.proofs.Steps.{AreKids_for, kids_number, kids_parts}
 use Rattle.state_build.specs.Built.{value_of}
 use Rattle.state_build.specs.ValueTests.{is_far, pair_set, apart_set}
 use Rattle.state_build.proofs.Tested.{AreRests_tested, tested_parts, tested_widened}
-use Rattle.state_build.proofs.Lowering.{local_made}
+use Rattle.diagram_defs.proofs.LocalSets.{local_made}
 use Rattle.state_build.proofs.Pairing.{level_in, pair_test, pair_whole}
 use Rattle.state_build.proofs.pairs.pairs.Goals as goal
 use Rattle.state_build.proofs.pairs.pairs.Goals.{After-pair_kids, In_ok-kids, After-as_slice, After-case, In_ok-number}
@@ -55,19 +55,19 @@ case_parts c l part p =
     wide_parts before l part (kids_parts c.args.pool.now c.pair_kids.new.pool c.args.first (pair_set c.args.pool.now.arities c.args.lists.now c.args.first c.args.second c.args.side c.args.by) c.as_slice.result.now c.in_ok-kids.ensures.grows.grows (first_in before) (AreRests_tested c.args.pool.now c.args.first (pair_test c.args.lists.now c.args.first c.args.second c.args.side c.args.by)) (kids (goal.at-After-case c).After-as_slice) l part p)
 
 case_grown : (c : After-case) → GrowsBy (IsPartOf (length c.args.pool.now.arities) 0 (apart_set c.args.pool.now.arities c.args.lists.now c.args.first c.args.second c.args.side c.args.by)) c.args.pool.now c.case.new.self
-case_grown c = GrowsBy_step _ _ c.args.pool.now c.pair_kids.new.pool c.case.new.self (kids_grown (goal.at-After-case c).After-pair_kids) (case_parts c) c.case.ensures.grows
+case_grown c = GrowsBy_step _ _ c.args.pool.now c.pair_kids.new.pool c.case.new.self (kids_grown (goal.at-After-case c).After-pair_kids) (case_parts c) c.case.ensures.0
 
 pub returns-in_err-number-clause-grows : goal.returns-in_err-number-clause-grows
 returns-in_err-number-clause-grows c = case_grown (goal.at.returns-in_err-number-clause-grows c).After-case
 
 pub returns-in_err-number-clause-cause : goal.returns-in_err-number-clause-cause
 returns-in_err-number-clause-cause c =
-    passed_cause _ _ c.case.new.self c.from_residual-in_err-number.result c.in_err-number.field-0.0 c.from_residual-in_err-number.ensures.1 (case_parts (goal.at.returns-in_err-number-clause-cause c).After-case) c.in_err-number.ensures.cause
+    passed_cause _ _ c.case.new.self c.from_residual-in_err-number.result c.in_err-number.field-0.0 c.from_residual-in_err-number.ensures.1 (case_parts (goal.at.returns-in_err-number-clause-cause c).After-case) c.in_err-number.ensures.1
 
 number : (c : In_ok-number) → IsNumberFor c.case.new.self c.args.first (pair_set c.args.pool.now.arities c.args.lists.now c.args.first c.args.second c.args.side c.args.by) c.in_ok-number.number
 number c =
     let at = goal.at-In_ok-number c in
-    kids_number c.args.pool.now c.pair_kids.new.pool c.args.first (pair_set c.args.pool.now.arities c.args.lists.now c.args.first c.args.second c.args.side c.args.by) c.as_slice.result.now c.in_ok-kids.ensures.grows.grows (first_in at.After-pair_kids) (AreRests_tested c.args.pool.now c.args.first (pair_test c.args.lists.now c.args.first c.args.second c.args.side c.args.by)) (kids at.After-as_slice) c.case.new.self c.in_ok-number.number c.in_ok-number.ensures.number
+    kids_number c.args.pool.now c.pair_kids.new.pool c.args.first (pair_set c.args.pool.now.arities c.args.lists.now c.args.first c.args.second c.args.side c.args.by) c.as_slice.result.now c.in_ok-kids.ensures.grows.grows (first_in at.After-pair_kids) (AreRests_tested c.args.pool.now c.args.first (pair_test c.args.lists.now c.args.first c.args.second c.args.side c.args.by)) (kids at.After-as_slice) c.case.new.self c.in_ok-number.number c.in_ok-number.ensures.1
 
 same : (c : After-pair_kids) (state : List ℕ) → widened_set c.args.pool.now 0 c.args.first (pair_set c.args.pool.now.arities c.args.lists.now c.args.first c.args.second c.args.side c.args.by) state ≡ apart_set c.args.pool.now.arities c.args.lists.now c.args.first c.args.second c.args.side c.args.by state
 same c =
@@ -78,7 +78,7 @@ pub returns-clause-number : goal.returns-clause-number
 returns-clause-number c =
     let at = goal.at.returns-clause-number c in
     let inside = first_in at.After-pair_kids in
-    local_made c.args.pool.now c.args.first (omega arith) (pair_set c.args.pool.now.arities c.args.lists.now c.args.first c.args.second c.args.side c.args.by) (apart_set c.args.pool.now.arities c.args.lists.now c.args.first c.args.second c.args.side c.args.by) (same at.After-pair_kids) c.case.new.self c.in_ok-number.number (Grows_trans _ _ _ c.in_ok-kids.ensures.grows.grows c.in_ok-number.ensures.grows.grows) (number at.In_ok-number)
+    local_made c.args.pool.now c.args.first (omega arith) (pair_set c.args.pool.now.arities c.args.lists.now c.args.first c.args.second c.args.side c.args.by) (apart_set c.args.pool.now.arities c.args.lists.now c.args.first c.args.second c.args.side c.args.by) (same at.After-pair_kids) c.case.new.self c.in_ok-number.number (Grows_trans _ _ _ c.in_ok-kids.ensures.grows.grows c.in_ok-number.ensures.0.grows) (number at.In_ok-number)
 
 pub returns-clause-grows : goal.returns-clause-grows
 returns-clause-grows c = case_grown (goal.at.returns-clause-grows c).After-case

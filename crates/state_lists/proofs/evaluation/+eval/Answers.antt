@@ -1,7 +1,7 @@
 -- A part of a condition speaks of no other supplies than the whole.
 use Rattle.std.proofs.Common.{rules, length}
 use Rattle.pw_defs.specs.declared.conditions.Cond.{the_lemmas}
-use Rattle.intent_defs.proofs.Meaning.{speaks_not, speaks_all, speaks_any}
+use Rattle.supply_defs.proofs.Meaning.{speaks_not, speaks_all, speaks_any}
 use Rattle.state_lists.proofs.evaluation.+eval.Goals as goal
 
 pub eval-eval-requires : goal.eval-eval-requires

@@ -1,7 +1,7 @@
 use Rattle.std.proofs.Common.{◌≡◌, true, false, take}
 use Rattle.std.specs.List.{list_all, list_any}
-use Rattle.intent_defs.specs.Conditions.{holds}
-use Rattle.intent_defs.specs.States.{value_in}
+use Rattle.supply_defs.specs.Conditions.{holds}
+use Rattle.supply_defs.specs.States.{value_in}
 use Rattle.state_lists.proofs.evaluation.+eval.Given as goal
 
 -- the conditions so far hold

@@ -1,5 +1,5 @@
 use Rattle.std.proofs.Common.{◌≡◌, ◌*◌, ◌≤◌, min, drop}
-use Rattle.intent_defs.specs.States.{state_count}
+use Rattle.supply_defs.specs.States.{state_count}
 use Rattle.state_lists.proofs.listing.count_states.Given as goal
 
 -- the product so far, kept within the bound, and that of the lists that are left

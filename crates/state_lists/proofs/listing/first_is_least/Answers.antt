@@ -1,8 +1,8 @@
-use Rattle.intent_defs.specs.Conditions.{holds}
-use Rattle.intent_defs.specs.States.{value_in}
-use Rattle.base_defs.specs.Orders.{state_cmp}
-use Rattle.base_defs.proofs.Rising.{first_least}
-use Rattle.base_defs.proofs.TotalOrders.{state_cmp_total}
+use Rattle.supply_defs.specs.Conditions.{holds}
+use Rattle.supply_defs.specs.States.{value_in}
+use Rattle.pw_defs.specs.Values.{state_cmp}
+use Rattle.list_defs.proofs.Rising.{first_least}
+use Rattle.supply_defs.proofs.TotalOrders.{state_cmp_total}
 use Rattle.state_lists.proofs.listing.first_is_least.Goals as goal
 
 pub returns : goal.returns

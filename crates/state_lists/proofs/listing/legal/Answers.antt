@@ -6,9 +6,9 @@ use Rattle.std.proofs.lemmas.List.Recursion.{and_from_places}
 use Rattle.pw_defs.specs.Values.{value_cmp}
 use Rattle.pw_defs.specs.declared.conditions.Cond.TheVariants.{True}
 use Rattle.pw_defs.specs.declared.values.State.{State}
-use Rattle.base_defs.specs.Orders.{IsRising}
-use Rattle.intent_defs.specs.Conditions.{speaks_below}
-use Rattle.intent_defs.specs.States.{all_states, legal_states, meets}
+use Rattle.list_defs.specs.Orders.{IsRising}
+use Rattle.supply_defs.specs.Conditions.{speaks_below}
+use Rattle.supply_defs.specs.States.{all_states, legal_states, meets}
 use Rattle.state_lists.proofs.InOrder.{legal_rising}
 use Rattle.state_lists.proofs.Membership.{in_legal_states}
 use Rattle.state_lists.proofs.Numbering.{length-all_states}

@@ -1,6 +1,6 @@
 use Rattle.std.proofs.Common.{◌≡◌, map, filter, take}
 use Rattle.pw_defs.specs.declared.values.State.{State}
-use Rattle.intent_defs.specs.States.{all_states, meets}
+use Rattle.supply_defs.specs.States.{all_states, meets}
 use Rattle.state_lists.proofs.listing.legal.Given as goal
 
 -- the legal ones of the states so far

@@ -1,5 +1,5 @@
 use Rattle.std.proofs.Common.{◌≡◌, ◌<◌, [], ◌++◌, drop, length, slice_index_or}
-use Rattle.intent_defs.specs.States.{all_states, state_count}
+use Rattle.supply_defs.specs.States.{all_states, state_count}
 use Rattle.state_lists.proofs.listing.state_at.Given as goal
 
 -- the values so far and the state with the rest of the number, of the lists that are left, make the state

@@ -1,7 +1,7 @@
 use Rattle.std.proofs.Common.{◌≡◌, true, List, ℕ, take}
 use Rattle.std.specs.List.{filter_map, list_all, enumerate_from}
 use Rattle.line_forms.specs.declared.script_lines.CommandLine.{CommandLine}
-use Rattle.base_defs.specs.Members.{all_differ, same_name}
+use Rattle.list_defs.specs.Members.{all_differ, same_name}
 use Rattle.form_intent.specs.declared.made.Made.{Made}
 use Rattle.form_intent.specs.Script.{object_made}
 use Rattle.form_intent.specs.Fits.{line_fits}

@@ -1,18 +1,9 @@
-use Rattle.diagram_defs.proofs.PartLemmas.{same_made, same_grown, same_refused}
-use Rattle.state_diagrams.proofs.JoinLemmas.{joined_or, or_nothing, any_made, any_grown, any_refused}
+use Rattle.diagram_defs.proofs.Yielding.{Makes_same}
+use Rattle.state_diagrams.proofs.JoinLemmas.{joined_or, or_nothing, any_level}
 use Rattle.state_diagrams.proofs.pool.Pool.or.Goals as goal
 
-pub returns-clause-number : goal.returns-clause-number
-returns-clause-number c level first second =
-    any_made c.args.self.now c.join_anew.new.self c.args.a c.args.b level c.common_level-level.result _ (c.common_level-level.ensures.one level first second) (or_nothing c.args.self.now c.args.a c.args.b) c.join_anew.ensures.grows.grows c.join_anew.result
-    (same_made c.args.self.now c.join_anew.new.self c.common_level-level.result _ _ (joined_or c.args.self.now c.common_level-level.ensures.pool c.common_level-level.result c.args.a c.args.b c.common_level-level.ensures.first c.common_level-level.ensures.second) c.join_anew.result c.join_anew.ensures.number)
-
-pub returns-clause-grows : goal.returns-clause-grows
-returns-clause-grows c level first second =
-    any_grown c.args.self.now c.join_anew.new.self c.args.a c.args.b level c.common_level-level.result _ (c.common_level-level.ensures.one level first second) (or_nothing c.args.self.now c.args.a c.args.b)
-    (same_grown c.args.self.now c.join_anew.new.self c.common_level-level.result _ _ (joined_or c.args.self.now c.common_level-level.ensures.pool c.common_level-level.result c.args.a c.args.b c.common_level-level.ensures.first c.common_level-level.ensures.second) c.join_anew.ensures.grows)
-
-pub returns-clause-cause : goal.returns-clause-cause
-returns-clause-cause c level first second =
-    any_refused c.args.self.now c.join_anew.new.self c.args.a c.args.b level c.common_level-level.result _ (c.common_level-level.ensures.one level first second) (or_nothing c.args.self.now c.args.a c.args.b) c.join_anew.result
-    (same_refused c.args.self.now c.join_anew.new.self c.common_level-level.result _ _ (joined_or c.args.self.now c.common_level-level.ensures.pool c.common_level-level.result c.args.a c.args.b c.common_level-level.ensures.first c.common_level-level.ensures.second) c.join_anew.result c.join_anew.ensures.cause)
+pub returns : goal.returns
+returns c level first second =
+    let found = c.common_level-level in
+    any_level c.args.self.now c.joined.new.self c.args.a c.args.b level found.result _ (found.ensures.one level first second) (or_nothing c.args.self.now c.args.a c.args.b) c.joined.result
+    (Makes_same c.args.self.now c.joined.new.self found.result _ _ c.joined.result (joined_or c.args.self.now found.ensures.pool found.result c.args.a c.args.b found.ensures.first found.ensures.second) c.joined.ensures)

@@ -2,9 +2,10 @@ use Rattle.std.proofs.Common.{◌≡◌, ◌<◌, ◌+◌, ◌-◌, ℕ, List, B
 use Rattle.diagram_defs.specs.Diagrams.{IsNumberFor, AreKidsFor, member}
 use Rattle.diagram_defs.specs.Parts.{GrowsBy, IsPartOf}
 use Rattle.diagram_defs.specs.Sets.{case_set, widened_set}
-use Rattle.diagram_defs.proofs.PartLemmas.{GrowsBy_none, GrowsBy_step, passed_cause}
+use Rattle.diagram_defs.proofs.PartLemmas.{GrowsBy_none, GrowsBy_step}
 use Rattle.diagram_defs.proofs.Steps.{AreKids_for, kids_number, kids_parts, AreRests_number}
-use Rattle.state_diagrams.proofs.Levels.{AreRests_widened, widened_up, widened_kids, widened_itself}
+use Rattle.diagram_defs.proofs.Widened.{AreRests_widened, widened_up, widened_kids, widened_itself}
+use Rattle.diagram_defs.proofs.Yielding.{Yields_passed, Yields_memory}
 use Rattle.state_diagrams.proofs.pool.Pool.widen.Goals as goal
 use Rattle.state_diagrams.proofs.pool.Pool.widen.Goals.{In_ok-kids, After-case_of}
 
@@ -46,14 +47,14 @@ parts c l part p =
     widened_up old c.allocator-alloc.ensures c.args.from set c.requires.level_in (low - c.args.level) c.args.level l part (omega arith) (subst (λ (n : ℕ). IsPartOf (length old.arities) n (widened_set old n c.args.from set) l part) up here)
 
 grown : (c : After-case_of) → GrowsBy (IsPartOf (length c.args.self.now.arities) c.args.level (widened_set c.args.self.now c.args.level c.args.from (member c.args.self.now.nodes c.args.n))) c.args.self.now c.case_of.new.self
-grown c = GrowsBy_step _ _ c.args.self.now c.loop-at.self c.case_of.new.self c.loop-at.invariant.grows (parts c) c.case_of.ensures.grows
+grown c = GrowsBy_step _ _ c.args.self.now c.loop-at.self c.case_of.new.self c.loop-at.invariant.grows (parts c) c.case_of.ensures.0
 
-pub returns-in_err-n-clause-grows : goal.returns-in_err-n-clause-grows
-returns-in_err-n-clause-grows c = grown (goal.at.returns-in_err-n-clause-grows c).After-case_of
+pub returns-in_err-kids : goal.returns-in_err-kids
+returns-in_err-kids c = Yields_memory _ c.from_residual.result c.from_residual.ensures.1 c.loop-at.invariant.grows
 
-pub returns-in_err-n-clause-cause : goal.returns-in_err-n-clause-cause
-returns-in_err-n-clause-cause c =
-    passed_cause _ _ c.case_of.new.self c.from_residual-in_err-n.result c.in_err-n.field-0.0 c.from_residual-in_err-n.ensures.1 (parts (goal.at.returns-in_err-n-clause-cause c).After-case_of) c.in_err-n.ensures.cause
+pub returns-in_err-n : goal.returns-in_err-n
+returns-in_err-n c =
+    Yields_passed _ c.from_residual-in_err-n.result c.in_err-n.field-0.0 c.from_residual-in_err-n.ensures.1 c.loop-at.invariant.grows (parts (goal.at.returns-in_err-n c).After-case_of) c.in_err-n.ensures
 
 pub loop-at-preserved : goal.loop-at-preserved
 loop-at-preserved c = record {
@@ -64,10 +65,10 @@ loop-at-preserved c = record {
       let old = c.args.self.now in
       let low = c.loop-at.at - 1 in
       let inside : low < length old.arities = let b = c.loop-at.invariant.below in omega arith in
-      kids_number old c.loop-at.self low (widened_set old low c.args.from (member old.nodes c.args.n)) c.in_ok-kids.kids.items c.loop-at.invariant.grows.grows inside (AreRests_widened old c.allocator-alloc.ensures c.args.from (member old.nodes c.args.n) c.requires.level_in low) (kids (goal.at.loop-at-preserved c).In_ok-kids) c.case_of.new.self c.in_ok-n.n c.in_ok-n.ensures.number;
+      kids_number old c.loop-at.self low (widened_set old low c.args.from (member old.nodes c.args.n)) c.in_ok-kids.kids.items c.loop-at.invariant.grows.grows inside (AreRests_widened old c.allocator-alloc.ensures c.args.from (member old.nodes c.args.n) c.requires.level_in low) (kids (goal.at.loop-at-preserved c).In_ok-kids) c.case_of.new.self c.in_ok-n.n c.in_ok-n.ensures.1;
 }
 
-pub returns-clause-number : goal.returns-clause-number
-returns-clause-number c =
+pub returns : goal.returns
+returns c =
     let end : c.loop-at.at ≡ c.args.level = let a = c.loop-at.invariant.above in omega arith in
-    subst (λ (l : ℕ). IsNumberFor c.loop-at.self l (widened_set c.args.self.now l c.args.from (member c.args.self.now.nodes c.args.n)) c.loop-at.n) end c.loop-at.invariant.number
+    (c.loop-at.invariant.grows, subst (λ (l : ℕ). IsNumberFor c.loop-at.self l (widened_set c.args.self.now l c.args.from (member c.args.self.now.nodes c.args.n)) c.loop-at.n) end c.loop-at.invariant.number)

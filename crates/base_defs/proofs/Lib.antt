@@ -1,4 +1,0 @@
-pub mod NameLemmas
-pub mod Members
-pub mod Rising
-pub mod TotalOrders

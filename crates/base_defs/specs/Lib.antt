@@ -1,4 +1,0 @@
-pub mod Members
-pub mod Orders
-pub mod Text
-pub mod Volts

@@ -1,2 +1,0 @@
-//! Definitions of orders, lists in order and printed numbers. It has no code.
-#![tactic(auto)]

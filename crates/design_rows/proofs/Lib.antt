@@ -1,0 +1,4 @@
+pub mod Owners
+pub mod Paths
+pub mod RowLemmas
+pub mod GrowthLemmas

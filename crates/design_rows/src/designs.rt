@@ -1,0 +1,154 @@
+//! A sound design, stored in rows.
+ghost use Rattle.std.specs.Prelude.{◌≡◌, ◌<◌, ◌++◌, Some, length, slice_get, IfSome, OnOk};
+ghost use Rattle.std.specs.Option.{option_and_then, option_map};
+ghost use Rattle.design_defs.specs.Sound.{IsSoundDesign};
+ghost use Rattle.design_defs.specs.Walks.{feeder_at, next_of};
+ghost use Rattle.design_rows.specs.Sound.{IsSound};
+ghost use Rattle.design_rows.specs.View.{design_of};
+
+use crate::reads;
+use crate::tables::Rows;
+use pw_defs::{Body, Bytes, Cells, Feeder, List, Model as SoftMacro, Module, PortBit};
+use std::alloc::AllocError;
+use std::marker::Model;
+
+/// A sound design, seen as the plain record of its instances and bits.
+#[derive(Drop)]
+pub struct Design {
+    rows: Rows,
+}
+
+impl Model for Design {
+    ghost use Rattle.pw_defs.specs.declared.design.Design.{Design as PlainDesign};
+    ghost use Rattle.std.specs.Coded.{codes};
+    ghost use Rattle.pw_defs.specs.contracts.netlist.Expr as expr;
+
+    ghost Value = { PlainDesign };
+
+    ghost coded = { Prim.hlevel (codes, expr.the_row.coded) };
+
+    ghost use Rattle.design_rows.specs.Sound.{IsSound};
+    ghost use Rattle.design_rows.specs.View.{design_of};
+
+    ghost view = { λ d. design_of d.rows };
+
+    ghost invariant = { λ d. IsSound d.rows };
+}
+
+#[tactic(auto, using(crate::proofs::RowLemmas::reads), unfolding(crate::specs::View::bit_at, crate::specs::View::instance_at))]
+impl Design {
+    /// The design of rows that are sound.
+    pub fn new(rows: Rows) -> Design
+        requires { IsSound rows }
+        ensures { result ≡ design_of rows }
+    {
+        Design { rows }
+    }
+
+    /// Every design of this type is sound.
+    pub fn sound(&self)
+        ensures { IsSoundDesign self.now }
+    {
+        let _ = &self.rows;
+    }
+
+    /// The cells of the libraries.
+    pub fn cells(&self) -> &Cells
+        ensures { result.now ≡ self.now.cells }
+    {
+        &self.rows.cells
+    }
+
+    /// The modules of the netlist.
+    pub fn modules(&self) -> &List<Module>
+        ensures { result.now ≡ self.now.modules }
+    {
+        &self.rows.modules
+    }
+
+    /// The models of soft macros.
+    pub fn models(&self) -> &List<SoftMacro>
+        ensures { result.now ≡ self.now.models }
+    {
+        &self.rows.models
+    }
+
+    /// How many instances there are.
+    pub fn len_insts(&self) -> u32
+        ensures { result ≡ length self.now.insts }
+    {
+        self.rows.insts.len()
+    }
+
+    /// How many bits there are.
+    pub fn len_bits(&self) -> u32
+        ensures { result ≡ length self.now.bits }
+    {
+        self.rows.feeds.len() as u32
+    }
+
+    /// What an instance is an instance of.
+    pub fn body(&self, n: u32) -> Body
+        requires { n < length self.now.insts }
+        ensures { option_map (λ i. i.body) (slice_get self.now.insts n) ≡ Some result }
+    {
+        let rows = &self.rows;
+        reads::kind(rows, reads::instance(rows, n)).body
+    }
+
+    /// What an instance is inside; the first, which is the top, is inside none.
+    pub fn parent(&self, n: u32) -> Option<u32>
+        requires { n < length self.now.insts }
+        ensures { option_map (λ i. i.parent) (slice_get self.now.insts n) ≡ Some result }
+    {
+        reads::parent(&self.rows, n)
+    }
+
+    /// Appends the path of an instance.
+    pub fn put_path(&self, n: u32, out: &mut Bytes) -> Result<(), AllocError>
+        requires { n < length self.now.insts }
+        ensures { OnOk result (IfSome (slice_get self.now.insts n) (λ i. out.new ≡ out.old ++ i.path)) }
+    {
+        reads::put_path(&self.rows, n, out)
+    }
+
+    /// The instance that owns a bit.
+    pub fn owner(&self, n: u32) -> u32
+        requires { n < length self.now.bits }
+        ensures { option_map (λ b. b.owner) (slice_get self.now.bits n) ≡ Some result }
+    {
+        reads::owner(&self.rows, n)
+    }
+
+    /// The port bit that a bit is, which is `None` at a bit of a net.
+    pub fn port(&self, n: u32) -> Option<PortBit>
+        requires { n < length self.now.bits }
+        ensures { option_map (λ b. b.port) (slice_get self.now.bits n) ≡ Some result }
+    {
+        reads::port(&self.rows, n)
+    }
+
+    /// What feeds a bit.
+    pub fn feeder(&self, n: u32) -> Feeder
+        requires { n < length self.now.bits }
+        ensures { feeder_at self.now.bits n ≡ Some result }
+    {
+        reads::feeder(&self.rows, n)
+    }
+
+    /// The bit at which a walk goes on behind a bit.
+    pub fn next(&self, n: u32) -> Option<u32>
+        requires { n < length self.now.bits }
+        ensures { option_and_then next_of (feeder_at self.now.bits n) ≡ result }
+    {
+        reads::next(&self.rows, n)
+    }
+
+    /// Appends the name of a bit.
+    pub fn put_bit_name(&self, n: u32, out: &mut Bytes) -> Result<(), AllocError>
+        requires { n < length self.now.bits }
+        ensures { OnOk result (IfSome (slice_get self.now.bits n) (λ b. out.new ≡ out.old ++ b.name)) }
+    {
+        reads::put_bit_name(&self.rows, n, out)
+    }
+}

@@ -1,0 +1,12 @@
+pub mod Classes
+pub mod FaceLaws
+pub mod OneChoice
+pub mod OneDomain
+pub mod SomeChoice
+pub mod SoundIntentLaws
+pub mod WorkedDomains
+pub mod WorkedIntent
+pub mod WorkedMembers
+pub mod WorkedModel
+pub mod WorkedSets
+pub mod WorkedStrategies

@@ -1,0 +1,9 @@
+pub mod Candidates
+pub mod DomainFaults
+pub mod Faces
+pub mod Members
+pub mod ModelUnits
+pub mod Precedence
+pub mod Ranges
+pub mod Sets
+pub mod SoundIntent

@@ -1,2 +1,0 @@
-//! Definitions of conditions on supplies and of legal states. It has no code.
-#![tactic(auto)]

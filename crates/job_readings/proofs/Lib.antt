@@ -1,0 +1,13 @@
+pub mod ExactReadings
+pub mod OwnNames
+pub mod GivenCells
+pub mod DeclaredNames
+pub mod LeftSides
+pub mod ReadSources
+pub mod OneAnswer
+pub mod AbsentFiles
+pub mod SureRefusals
+pub mod PairMembers
+pub mod WorkedCells
+pub mod WorkedAnswer
+pub mod WorkedRefusals

@@ -1,0 +1,2 @@
+//! Definitions of members, orders and lists in order, with their laws. It has no code.
+#![tactic(auto)]

@@ -1,0 +1,5 @@
+pub mod OneMeaning
+pub mod OneTerm
+pub mod TokenReading
+pub mod WorkedParentheses
+pub mod WorkedTerms

@@ -1,0 +1,4 @@
+pub mod Expressions
+pub mod ExpressionWords
+pub mod Laws
+pub mod TermMeaning

@@ -1,0 +1,2 @@
+pub mod EvenTables
+pub mod Fitting

@@ -1,0 +1,84 @@
+//! Answers single calls of the crates below the program, so that tables of their answers can stand outside as data.
+//!
+//! Each line of the input is a call with its arguments, and its answer is printed as a line. `unknown` answers a line
+//! that is no call, or whose arguments don't meet the call's conditions.
+//!
+//! - `table BOUND LEVELS ARITY` begins a table of sets of states; `full LEVEL`, `literal LEVEL MASK`, `case LEVEL A B`,
+//!   `and LEVEL A B`, `or LEVEL A B`, `complement LEVEL A` answer a number or `bound N`; `nodes`, `holds N INDEX ..`.
+//! - `supply VALUE ..` adds a supply with its values, `off` or microvolts; `supplies` begins anew.
+//! - `legal CONDITION` answers the legal states, `build CONDITION` the number of its set in the table. A condition is
+//!   written from its parts on: `on:0`, `is:0:off`, `is:0:800000`, `apart:0:1:100000`, `true`, `not`, `all:2`, `any:0`.
+#![tactic(auto)]
+
+mod conditions;
+mod states;
+mod tables;
+mod words;
+
+use state_diagrams::Pool;
+use states::Supplies;
+use std::alloc::{AllocError, Global};
+use std::io;
+use words::{answer_text, numbers_of, unknown, words_of};
+
+/// What the lines so far have begun.
+#[derive(Drop)]
+struct Session {
+    table: Option<Pool>,
+    supplies: Supplies,
+}
+
+/// The answer of a call.
+fn answer(alloc: Global, session: &mut Session, words: &[&str]) -> Result<String, AllocError> {
+    let Some((call, arguments)) = words.split_first() else {
+        return unknown(alloc);
+    };
+    match *call {
+        "supplies" => {
+            session.supplies = Supplies::new(alloc);
+            String::from_str(alloc, "supplies")
+        }
+        "supply" => session.supplies.add(alloc, arguments),
+        "legal" => states::legal_text(alloc, &session.supplies, arguments),
+        "table" => {
+            session.table = tables::table_of(alloc, arguments)?;
+            answer_text(alloc, session.table.is_some(), "table")
+        }
+        _ => match &mut session.table {
+            Some(pool) => table_answer(alloc, pool, &session.supplies, *call, arguments),
+            None => unknown(alloc),
+        },
+    }
+}
+
+/// The answer of a call on a table.
+fn table_answer(
+    alloc: Global,
+    pool: &mut Pool,
+    supplies: &Supplies,
+    call: &str,
+    arguments: &[&str],
+) -> Result<String, AllocError> {
+    if call == "build" {
+        return states::build_text(alloc, pool, supplies, arguments);
+    }
+    match numbers_of(alloc, arguments)? {
+        Some(numbers) => tables::answer(alloc, pool, call, numbers.as_slice()),
+        None => unknown(alloc),
+    }
+}
+
+fn main(rt: HostRuntime) -> io::Result<()> {
+    let alloc = rt.alloc();
+    let mut session = Session {
+        table: None,
+        supplies: Supplies::new(alloc),
+    };
+    for line in rt.lines(alloc) {
+        let line = line?;
+        let words = words_of(alloc, line.as_str())?;
+        let text = answer(alloc, &mut session, words.as_slice())?;
+        println!(rt; "{text}")?;
+    }
+    Ok(())
+}

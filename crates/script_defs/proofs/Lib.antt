@@ -1,0 +1,16 @@
+pub mod OneEnd
+pub mod SomeEnd
+pub mod OneClosing
+pub mod OneIntent
+pub mod OneLoad
+pub mod ExactReaders
+pub mod Behind
+pub mod WorkedWorlds
+pub mod TermLemmas
+pub mod Nesting
+pub mod WorkedFaults
+pub mod WorkedRuns
+pub mod WorkedIntents
+pub mod WorkedReading
+pub mod FewRoots
+pub mod WorkedLoads

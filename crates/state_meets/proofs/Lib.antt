@@ -1,0 +1,9 @@
+pub mod Fulls
+pub mod Meetings
+pub mod Meets
+pub mod Reasons
+pub mod Remembering
+pub mod Spreading
+pub mod Standing
+pub mod WorkedCommons
+pub mod WorkedGathers

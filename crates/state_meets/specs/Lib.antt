@@ -1,0 +1,6 @@
+pub mod Behind
+pub mod Common
+pub mod Gathered
+pub mod Memos
+pub mod Planned
+pub mod Walks

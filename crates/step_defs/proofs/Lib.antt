@@ -1,0 +1,2 @@
+pub mod ExactSteps
+pub mod WorkedSteps

@@ -1,0 +1,17 @@
+pub mod Meaning
+pub mod OneList
+pub mod OnePlace
+pub mod Placing
+pub mod Roots
+pub mod RootsSeen
+pub mod SameSets
+pub mod Showing
+pub mod TotalOrders
+pub mod UnitListLaws
+pub mod UnstatedRoots
+pub mod WorkedConditions
+pub mod WorkedNetworks
+pub mod WorkedPlaces
+pub mod WorkedRoots
+pub mod WorkedUnits
+pub mod WorkedValues

@@ -1,0 +1,9 @@
+pub mod Conditions
+pub mod Limits
+pub mod Network
+pub mod Places
+pub mod SetConditions
+pub mod States
+pub mod UnitLists
+pub mod UnitViews
+pub mod Values

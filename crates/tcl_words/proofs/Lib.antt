@@ -1,0 +1,9 @@
+pub mod Braces
+pub mod Cuts
+pub mod ListLaws
+pub mod Replacing
+pub mod ScriptLaws
+pub mod VariableNames
+pub mod WordReading
+pub mod WorkedLists
+pub mod WorkedScripts

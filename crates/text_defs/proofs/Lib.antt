@@ -1,0 +1,11 @@
+pub mod Found
+pub mod Faults
+pub mod Whole
+pub mod Clear
+pub mod ClearPhrases
+pub mod ClearTokens
+pub mod NestedNames
+pub mod FirstPlaces
+pub mod Told
+pub mod WorkedLines
+pub mod WorkedPieces

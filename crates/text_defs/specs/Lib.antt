@@ -1,0 +1,9 @@
+pub mod Text
+pub mod Volts
+pub mod Lines
+pub mod Grammar
+pub mod Phrases
+pub mod FirstFault
+pub mod Pieces
+pub mod FirstPlace
+pub mod Tokens

@@ -1,0 +1,13 @@
+pub mod CommandLaws
+pub mod CommandReading
+pub mod FormLaws
+pub mod FormReading
+pub mod FormValues
+pub mod ItemReading
+pub mod LineReading
+pub mod OneValue
+pub mod OneVoltage
+pub mod Splits
+pub mod WorkedCommands
+pub mod WorkedScripts
+pub mod WorkedValues

@@ -1,0 +1,9 @@
+pub mod CommandFaults
+pub mod CommandRows
+pub mod CommandWords
+pub mod Commands
+pub mod Forms
+pub mod Laws
+pub mod CommandTable
+pub mod Values
+pub mod Voltages

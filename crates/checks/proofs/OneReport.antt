@@ -9,6 +9,7 @@ use Rattle.std.specs.declared.cmp.Ordering.TheVariants.{Less, Equal, Greater}
 use Rattle.std.proofs.lemmas.Bool.{true≢false}
 use Rattle.std.proofs.lemmas.Cmp.{nat_cmp_total, nat_list_cmp_total, on_total, then_total}
 use Rattle.std.proofs.lemmas.Option.{same_Some}
+use Rattle.pw_defs.specs.Kinds.{kind_number}
 use Rattle.pw_defs.specs.Values.{value_cmp}
 use Rattle.pw_defs.specs.declared.chains.Kind.{Kind}
 use Rattle.pw_defs.specs.declared.chains.Walk.{Walk}
@@ -33,8 +34,9 @@ use Rattle.design_defs.specs.Walks.{IsWalk, AreWalks, starts}
 use Rattle.supply_defs.specs.Conditions.{holds}
 use Rattle.supply_defs.specs.States.{value_in}
 use Rattle.checks.specs.LineWatches.{watched}
-use Rattle.checks.specs.LineFindings.{Shows, IsFindingOf, IsQuiet, AreFindings, none, found, quiet, kind_number, finding_cmp, legal_of, IsReport}
-use Rattle.signoff_defs.proofs.InOrder.{put_once}
+use Rattle.checks.specs.LineFindings.{Shows, IsFindingOf, IsQuiet, AreFindings, none, found, quiet, finding_cmp, legal_of, IsReport}
+use Rattle.list_defs.proofs.InOrder.{put_once}
+use Rattle.list_defs.proofs.OneFound.{zip_once}
 use Rattle.chains.specs.OneWalk.{HasOneWalk}
 
 -- ---- one list of walks
@@ -47,18 +49,6 @@ same_walk : HasOneWalk → (bits : List Bit) (s : ℕ × PortBit) (w v : Walk) �
 same_walk one bits s w v a b =
     let same = one bits s.0 w.bits v.bits w.from v.from a.1 b.1 in
     walk_with same.1 (a.0 ∙ sym b.0) same.0
-
--- a list is determined where each of its items is
-zip_once : {A B : Type 0} (R : A → B → Type 0) → ((a : A) (x y : B) → R a x → R a y → x ≡ y) → (keys : List A) (xs ys : List B) → AllZip R keys xs → AllZip R keys ys → xs ≡ ys
-zip_once R one [] [] [] p q = refl
-zip_once R one [] [] (y ∷ ys) p q = absurd q
-zip_once R one [] (x ∷ xs) ys p q = absurd p
-zip_once R one (a ∷ keys) [] ys p q = absurd p
-zip_once R one (a ∷ keys) (x ∷ xs) [] p q = absurd q
-zip_once R one (a ∷ keys) (x ∷ xs) (y ∷ ys) p q =
-    let first : x ≡ y = one a x y p.0 q.0 in
-    let rest : xs ≡ ys = zip_once R one keys xs ys p.1 q.1 in
-    cc
 
 same_walks : HasOneWalk → (d : Design) (ws vs : List Walk) → AreWalks d ws → AreWalks d vs → ws ≡ vs
 same_walks one d ws vs = zip_once (λ (s : ℕ × PortBit) (w : Walk). (w.to ≡ s.1) × IsWalk d.bits s.0 w.bits w.from) (same_walk one d.bits) (starts d) ws vs

@@ -2,8 +2,8 @@
 use Rattle.std.specs.Prelude.{◌≡◌, ℕ, Bool, true, false, List, [], ◌∷◌, Option, Some, None, map, option_map, unwrap_or, length, take, min, sum_by, slice_get}
 use Rattle.std.specs.Ordering.{nat_cmp, ordering_then}
 use Rattle.std.specs.declared.cmp.Ordering.{Ordering}
-use Rattle.pw_defs.specs.declared.chains.Kind.{Kind}
-use Rattle.pw_defs.specs.declared.chains.Kind.TheVariants.{IsoMissing, IsoRedundant, IsoSupply, IsoIntent, LsMissing, LsRedundant, LsSupply, LsIntent, Tie}
+use Rattle.pw_defs.specs.Kinds.{kind_number}
+use Rattle.pw_defs.specs.declared.chains.Kind.TheVariants.{IsoMissing}
 use Rattle.pw_defs.specs.declared.chains.Walk.{Walk}
 use Rattle.pw_defs.specs.declared.conditions.Cond.{Cond}
 use Rattle.pw_defs.specs.declared.design.Body.{Body}
@@ -73,17 +73,6 @@ pub data AreFindings (d : Design) (i : Intent) (legal : List (List Value)) : Lis
   none : AreFindings d i legal [] []
   found : (c : Ends) (f : Finding) (cs : List Ends) (fs : List Finding) → IsFindingOf d i legal c f → AreFindings d i legal cs fs → AreFindings d i legal (c ∷ cs) (f ∷ fs)
   quiet : (c : Ends) (cs : List Ends) (fs : List Finding) → IsQuiet i legal c → AreFindings d i legal cs fs → AreFindings d i legal (c ∷ cs) fs
-
-abbrev pub kind_number : Kind → ℕ
-kind_number IsoMissing = 0
-kind_number IsoRedundant = 1
-kind_number IsoSupply = 2
-kind_number IsoIntent = 3
-kind_number LsMissing = 4
-kind_number LsRedundant = 5
-kind_number LsSupply = 6
-kind_number LsIntent = 7
-kind_number Tie = 8
 
 -- findings come by receiver name, then by kind
 abbrev pub finding_cmp : Finding → Finding → Ordering

@@ -1,7 +1,8 @@
 //! The report's parts: the name of the top, the count of passed-over lines, and the findings in order.
 ghost use Rattle.std.specs.Prelude.{◌≡◌, IfOk, OnOk, min, sum_by};
 ghost use Rattle.list_defs.specs.Orders.{IsPutInOrder};
-ghost use Rattle.checks.specs.LineFindings.{kind_number, finding_cmp, module_name, top_name};
+ghost use Rattle.pw_defs.specs.Kinds.{kind_number};
+ghost use Rattle.checks.specs.LineFindings.{finding_cmp, module_name, top_name};
 
 use pw_defs::{Body, Design, Finding, Kind, List, Memory, Name, Unit};
 use std::alloc::Global;

@@ -12,7 +12,7 @@ use Rattle.design_defs.specs.Bits.{Spot, spot_cmp}
 use Rattle.design_defs.specs.DesignFaults.{Fault, FaultKind, fault_cmp, kind_number, place_cmp}
 use Rattle.design_defs.specs.Hierarchy.{Way, path, paths, way_cmp}
 use Rattle.design_defs.specs.Names.{joined}
-use Rattle.design_defs.proofs.OrderLemmas.{both_equal}
+use Rattle.list_defs.proofs.OneList.{both_equal}
 
 -- lists are told apart where their things are
 exact_lists : {X : Type 0} (cmp : X → X → Ordering) → CmpEqualImpliesEq cmp → CmpEqualImpliesEq (slice_cmp cmp)

@@ -19,7 +19,7 @@ use Rattle.design_defs.specs.DesignFaults.{Fault, HasPort, HasPortAt, HasThingNa
 use Rattle.design_defs.specs.Hierarchy.{IsInstance, IsOfModule, Sources, Way, body_at, module_at, ports_in}
 use Rattle.design_defs.specs.Places.{misselected, signals}
 use Rattle.design_defs.specs.Ranges.{width}
-use Rattle.design_defs.proofs.Few.{few}
+use Rattle.list_defs.proofs.Few.{few}
 use Rattle.design_defs.proofs.Lookups.{IsNetBy, at_outer, body_of_spot, net_by}
 
 -- the input of the module

@@ -3,12 +3,10 @@ pub mod CutWalking
 pub mod WalkEnds
 pub mod DriverLemmas
 pub mod Resolving
-pub mod OrderLemmas
 pub mod BitOrders
 pub mod OneDesign
 pub mod Expressions
 pub mod Lookups
-pub mod Few
 pub mod FlatNetlists
 pub mod WorkedRing
 pub mod WorkedTwice

@@ -29,12 +29,13 @@ use Rattle.design_defs.specs.Names.{joined}
 use Rattle.design_defs.specs.Ports.{dir_in, is_output}
 use Rattle.design_defs.specs.Ranges.{bit_name}
 use Rattle.design_defs.proofs.BitOrders.{fault_exact, fault_total, place_total, spot_total, way_exact, way_total}
-use Rattle.design_defs.proofs.OrderLemmas.{not_before_itself, not_both_before, one_least, one_list_of_all, one_place}
+use Rattle.list_defs.proofs.OneList.{one_least, one_list, one_place}
+use Rattle.list_defs.proofs.Rising.{not_before_itself, not_both_before}
 
 -- there is one first fault
 pub one_first_fault : (s : Sources) (a b : DesignFault) → HasFirstFault s a → HasFirstFault s b → a ≡ b
 one_first_fault s a b f g =
-    let same : f.0 ≡ g.0 = one_least fault_cmp (IsFault s) fault_total fault_exact f.0 g.0 f.1 g.1 in
+    let same : f.0 ≡ g.0 = one_least fault_cmp fault_total fault_exact (IsFault s) f.0 g.0 f.1 g.1 in
     f.2 ∙ ap (λ (x : Fault). answer_of x.kind (place_of_fault x)) same ∙ sym g.2
 
 -- LINKS. Two links with one number in one instance are the same.
@@ -263,8 +264,8 @@ pub one_made : (s : Sources) → IsFaultless s → (d e : Design) → IsMadeFrom
 one_made s faultless d e p q =
     let a = p.numbering in
     let b = q.numbering in
-    let ways : a.ways ≡ b.ways = one_list_of_all way_cmp (IsInstance s) way_total a.ways b.ways a.all_ways b.all_ways in
-    let spots : a.spots ≡ b.spots = one_list_of_all spot_cmp (IsSpot s) spot_total a.spots b.spots a.all_spots b.all_spots in
+    let ways : a.ways ≡ b.ways = one_list way_cmp way_total (IsInstance s) a.ways b.ways a.all_ways b.all_ways in
+    let spots : a.spots ≡ b.spots = one_list spot_cmp spot_total (IsSpot s) a.spots b.spots a.all_spots b.all_spots in
     let one_way : (n m : ℕ) (w : Way) → slice_get a.ways n ≡ Some w → slice_get a.ways m ≡ Some w
     → n ≡ m = one_place way_cmp way_total a.ways a.all_ways.rising in
     let one_spot : (n m : ℕ) (y : Spot) → slice_get a.spots n ≡ Some y → slice_get a.spots m ≡ Some y

@@ -7,7 +7,7 @@ use Rattle.pw_defs.specs.declared.design.Bit.{Bit}
 use Rattle.pw_defs.specs.declared.design.Design.{Design}
 use Rattle.pw_defs.specs.declared.design.Feeder.{Feeder}
 use Rattle.pw_defs.specs.declared.design.Feeder.TheVariants.{Bit as BitFeeder, Through, Driver, Constant, Nothing}
-use Rattle.design_defs.specs.Rings.{HasNoRing, IsReached}
+use Rattle.list_defs.specs.Rings.{HasNoRing, IsReached}
 use Rattle.design_defs.specs.Sound.{IsBitIn, IsFedBy, IsFeederIn, IsSoundDesign}
 use Rattle.design_defs.specs.Walks.{IsWalk, WalksEnd, feeder_at, next_of}
 

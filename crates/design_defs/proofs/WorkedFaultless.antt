@@ -27,9 +27,9 @@ use Rattle.design_defs.specs.Links.{Feeds, IsFed, port_of_conn}
 use Rattle.design_defs.specs.Names.{joined}
 use Rattle.design_defs.specs.Places.{misselected, signals}
 use Rattle.design_defs.specs.Ranges.{width}
-use Rattle.design_defs.specs.Rings.{IsReached}
+use Rattle.list_defs.specs.Rings.{IsReached}
 use Rattle.design_defs.proofs.Expressions.{of_expressions}
-use Rattle.design_defs.proofs.Few.{few}
+use Rattle.list_defs.proofs.Few.{few}
 use Rattle.design_defs.proofs.Lookups.{other_name}
 use Rattle.design_defs.proofs.WorkedCases.{at_conns, at_insts, at_links, at_modules, line_a, line_b, line_i, line_o, one_of_one, one_of_two}
 use Rattle.design_defs.proofs.WorkedDesign.{pair_is_made}

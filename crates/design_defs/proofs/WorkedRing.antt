@@ -19,12 +19,12 @@ use Rattle.design_defs.specs.Hierarchy.{Sources, Way}
 use Rattle.design_defs.specs.Links.{End, Feeds, IsFed, IsLink, Link, links_in, spot_of}
 use Rattle.design_defs.specs.Places.{exprs_in, names_alone}
 use Rattle.design_defs.specs.Ranges.{bit_name}
-use Rattle.design_defs.specs.Rings.{IsReached}
+use Rattle.list_defs.specs.Rings.{IsReached}
 use Rattle.design_defs.proofs.BitOrders.{fault_total}
 use Rattle.design_defs.proofs.Expressions.{of_expressions}
 use Rattle.design_defs.proofs.FlatNetlists.{Fits, at, at_net, flat, flat_net, flat_module, no_early_fault, one_port, only_top, the_module}
 use Rattle.design_defs.proofs.Lookups.{IsNetBy, other_name}
-use Rattle.design_defs.proofs.OrderLemmas.{not_before_itself}
+use Rattle.list_defs.proofs.Rising.{not_before_itself}
 
 -- the wires and the assignments of the netlist
 abbrev wires : List Net

@@ -18,7 +18,7 @@ use Rattle.design_defs.specs.Joined.{HasJoinedName, path_of}
 use Rattle.design_defs.specs.Names.{joined}
 use Rattle.design_defs.specs.Ports.{body_of, port_at}
 use Rattle.design_defs.specs.Resolves.{Resolves, kind_of}
-use Rattle.design_defs.specs.Rings.{IsReached}
+use Rattle.list_defs.specs.Rings.{IsReached}
 use Rattle.design_defs.specs.Sound.{HasParentsFirst, HasTop, IsFedBy, IsSoundDesign}
 use Rattle.design_defs.proofs.Lookups.{other_name}
 

@@ -21,7 +21,7 @@ use Rattle.design_defs.proofs.BitOrders.{fault_total}
 use Rattle.design_defs.proofs.Expressions.{of_expressions}
 use Rattle.design_defs.proofs.FlatNetlists.{Fits, at, at_net, flat, flat_module, flat_net, no_early_fault, one_port, the_module}
 use Rattle.design_defs.proofs.Lookups.{IsNetBy, other_name}
-use Rattle.design_defs.proofs.OrderLemmas.{not_before_itself}
+use Rattle.list_defs.proofs.Rising.{not_before_itself}
 
 abbrev wires : List Net
 wires = []

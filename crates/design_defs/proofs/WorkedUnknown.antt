@@ -14,7 +14,7 @@ use Rattle.design_defs.specs.DesignFaults.{Fault, FaultKind, HasDesignFault, IsF
 use Rattle.design_defs.specs.Hierarchy.{IsOfModule, Sources, Way, body_at, module_at, type_of}
 use Rattle.design_defs.proofs.BitOrders.{fault_total}
 use Rattle.design_defs.proofs.Lookups.{at_outer}
-use Rattle.design_defs.proofs.OrderLemmas.{not_before_itself}
+use Rattle.list_defs.proofs.Rising.{not_before_itself}
 
 abbrev gate : Inst
 gate = record { kind = codes "NAND"; name = codes "g"; conns = []; line = 2 }

@@ -1,5 +1,5 @@
 -- What can be wrong with a design, where each fault stands, and which one comes first.
-use Rattle.std.specs.Prelude.{◌≡◌, ◌≢◌, ℕ, ◌+◌, ◌<◌, true, List, [], ◌∷◌, ◌++◌, Option, Some, None, length, slice_get, codes}
+use Rattle.std.specs.Prelude.{◌≡◌, ◌≢◌, ℕ, ◌<◌, true, List, [], ◌∷◌, ◌++◌, Option, Some, None, length, slice_get, codes}
 use Rattle.std.specs.Ordering.{nat_cmp, on, then_cmp}
 use Rattle.std.specs.declared.cmp.Ordering.{Ordering}
 use Rattle.std.specs.declared.cmp.Ordering.TheVariants.{Less}
@@ -17,7 +17,7 @@ use Rattle.pw_defs.specs.declared.netlist.Expr.{Expr}
 use Rattle.pw_defs.specs.declared.netlist.Inst.{Inst}
 use Rattle.pw_defs.specs.declared.netlist.Module.{Module}
 use Rattle.pw_defs.specs.declared.netlist.Port.{Port}
-use Rattle.list_defs.specs.Members.{IsIn}
+use Rattle.list_defs.specs.Members.{IsIn, HasMoreThan}
 use Rattle.list_defs.specs.Orders.{IsLeast, name_cmp}
 use Rattle.design_defs.specs.Bits.{HasSpotName, IsSpot, Spot}
 use Rattle.design_defs.specs.Designs.{IsMadeFrom}
@@ -27,7 +27,7 @@ use Rattle.design_defs.specs.Names.{joined}
 use Rattle.design_defs.specs.Places.{misselected, names_in, signals}
 use Rattle.design_defs.specs.Ports.{is_input}
 use Rattle.design_defs.specs.Ranges.{bit_name, width}
-use Rattle.design_defs.specs.Rings.{IsReached}
+use Rattle.list_defs.specs.Rings.{IsReached}
 
 -- KINDS of faults, in the order in which they are looked for.
 pub data FaultKind : Type 0 where
@@ -81,14 +81,7 @@ pub data IsAtOrAbove (s : Sources) (number : ℕ) : Way → Type 0 where
   here : (way : Way) → body_at s way ≡ Some (ModuleBody number) → IsAtOrAbove s number way
   above : (name : List ℕ) (outer : Way) → IsAtOrAbove s number outer → IsAtOrAbove s number (name ∷ outer)
 
--- SIZE. There are more than n things of a kind: a list of n + 1 different ones.
-pub record HasMoreThan {X : Type 0} (n : ℕ) (P : X → Type 0) : Type 0 where
-  pub things : List X
-  pub count : length things ≡ n + 1
-  pub each : (x : X) → IsIn x things → P x
-  pub different : (i j : ℕ) (x : X) → slice_get things i ≡ Some x → slice_get things j ≡ Some x → i ≡ j
-
--- more than 1,000,000 instances, more than 8,000,000 bits, or an instance inside more than 100
+-- SIZE. More than 1,000,000 instances, more than 8,000,000 bits, or an instance inside more than 100
 pub data IsTooLarge (s : Sources) : Type 0 where
   instances : HasMoreThan 1000000 (IsInstance s) → IsTooLarge s
   bits : HasMoreThan 8000000 (IsSpot s) → IsTooLarge s

@@ -4,7 +4,6 @@ pub mod Ports
 pub mod Drivers
 pub mod Models
 pub mod Joined
-pub mod Rings
 pub mod Walks
 pub mod CutWalks
 pub mod Alike

@@ -7,6 +7,7 @@ use Rattle.std.specs.Ordering.{nat_cmp, on, flip_args, then_cmp}
 use Rattle.std.specs.declared.cmp.Ordering.{Ordering}
 use Rattle.plain_lists.specs.declared.kept.Kept.{Kept}
 use Rattle.plain_lists.specs.declared.kept.KeptNode.{KeptNode}
+use Rattle.pw_defs.specs.Kinds.{kind_number}
 use Rattle.pw_defs.specs.declared.chains.Element.{Element}
 use Rattle.pw_defs.specs.declared.chains.Element.TheVariants.{Face, Cell}
 use Rattle.pw_defs.specs.declared.chains.Kind.{Kind}
@@ -232,18 +233,6 @@ pub record IsModelWatch (kept : Kept) (w : KeptWatch) : Type 0 where
   pub set_in : IsWatchSet kept w.sense w.node
   pub receiver : IsWord w.receiver
   pub driver : IsWord w.driver
-
--- the place of a kind in their order
-abbrev pub kind_number : Kind → ℕ
-kind_number IsoMissing = 0
-kind_number IsoRedundant = 1
-kind_number IsoSupply = 2
-kind_number IsoIntent = 3
-kind_number LsMissing = 4
-kind_number LsRedundant = 5
-kind_number LsSupply = 6
-kind_number LsIntent = 7
-kind_number Tie = 8
 
 -- by receiver, then by kind
 abbrev pub watch_cmp : KeptWatch → KeptWatch → Ordering

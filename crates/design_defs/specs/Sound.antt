@@ -20,7 +20,7 @@ use Rattle.design_defs.specs.Joined.{HaveOwnNames, parent_of}
 use Rattle.design_defs.specs.Models.{HasWellFormedFields}
 use Rattle.design_defs.specs.Ports.{IsPortBit, body_of}
 use Rattle.design_defs.specs.Ranges.{bit_name}
-use Rattle.design_defs.specs.Rings.{HasNoRing}
+use Rattle.list_defs.specs.Rings.{HasNoRing}
 use Rattle.design_defs.specs.Walks.{feeder_at, next_of}
 
 -- NUMBERS. The through pin and the enable pin of a cell are pins of it.

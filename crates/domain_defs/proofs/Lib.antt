@@ -1,4 +1,5 @@
 pub mod Classes
+pub mod Elements
 pub mod FaceLaws
 pub mod OneChoice
 pub mod OneDomain

@@ -13,7 +13,7 @@ use Rattle.pw_defs.specs.declared.faults.DomainFault.{DomainFault}
 use Rattle.pw_defs.specs.declared.faults.DomainFault.TheVariants.{U10, U11}
 use Rattle.pw_defs.specs.declared.intent.Domain.{Domain}
 use Rattle.design_defs.specs.Joined.{path_of}
-use Rattle.supply_defs.proofs.OneList.{one_least}
+use Rattle.list_defs.proofs.OneList.{one_least}
 use Rattle.domain_defs.specs.Members.{HasElement, IsInDomain, IsEntry}
 use Rattle.domain_defs.specs.DomainFaults.{LacksDomain, CannotHave, AreDomainsOf, element_cmp, HasDomainFault, shown_path}
 

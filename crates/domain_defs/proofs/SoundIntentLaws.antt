@@ -16,7 +16,7 @@ use Rattle.pw_defs.specs.declared.supplies.Supply.{Supply}
 use Rattle.list_defs.specs.Orders.{IsRising}
 use Rattle.design_defs.specs.Joined.{parent_of}
 use Rattle.design_defs.specs.Sound.{IsSoundDesign, HasParentsFirst}
-use Rattle.design_defs.proofs.OrderLemmas.{IsIn-slice_get}
+use Rattle.list_defs.proofs.Members.{IsIn-slice_get}
 use Rattle.supply_defs.specs.Network.{HasFeedersInRange}
 use Rattle.supply_defs.specs.UnitLists.{OutersAreSmaller}
 use Rattle.supply_defs.specs.UnitViews.{IsRootIn, view_ends}

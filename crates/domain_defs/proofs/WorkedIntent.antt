@@ -11,6 +11,7 @@ use Rattle.pw_defs.specs.declared.values.Value.{Value}
 use Rattle.pw_defs.specs.declared.values.Value.TheVariants.{Off, On}
 use Rattle.list_defs.specs.Members.{IsIn}
 use Rattle.design_defs.specs.Ports.{IsPortBit}
+use Rattle.list_defs.specs.Rings.{IsReached}
 use Rattle.supply_defs.specs.Limits.{AreFlatRoots, IsFlatRoot}
 use Rattle.supply_defs.specs.Network.{FeedersLead, IsRoot}
 use Rattle.supply_defs.specs.UnitLists.{IsSeen, IsSeenRoot, AreUnitLists, AreValues}
@@ -124,31 +125,24 @@ network : HasSoundNetwork block_intent
 network = record { no_ring = λ a lead. ringless a a lead; top_unfed = λ u port there i. absurd (no_ports u port (the_unit 0 u there).1 i) }
   where
     ringless : (a b : ℕ) → ¬ FeedersLead block_intent.supplies a b
-    ringless _ _ (FeedersLead.at_once zero b step) = cc
-    ringless _ _ (FeedersLead.at_once (suc a) b step) = cc
-    ringless _ _ (FeedersLead.further zero b c step rest) = cc
-    ringless _ _ (FeedersLead.further (suc a) b c step rest) = cc
+    ringless _ _ (IsReached.one zero b step) = cc
+    ringless _ _ (IsReached.one (suc a) b step) = cc
+    ringless _ _ (IsReached.more zero b c step rest) = cc
+    ringless _ _ (IsReached.more (suc a) b c step rest) = cc
 
     no_ports : (u : PowerUnit) (port : ℕ) → u ≡ top_unit → ¬ IsIn port (in_ports block_intent.supplies u)
     no_ports u port same i = let P : PowerUnit → Type 0 = λ x. IsIn port (in_ports block_intent.supplies x) in subst P same i
 
+flat_root : (n r : ℕ) → IsRoot block_intent.supplies [] n r → (n ≡ 0) × (r ≡ 0)
+flat_root _ _ (IsRoot.stopped n here) = absurd here
+flat_root _ _ (IsRoot.unfed zero none) = (refl, refl)
+flat_root _ _ (IsRoot.unfed (suc n) none) = cc
+flat_root _ _ (IsRoot.fed zero b r off step rest) = cc
+flat_root _ _ (IsRoot.fed (suc n) b r off step rest) = cc
+
 flat : (unit n r : ℕ) → IsRootIn block_intent.supplies block_intent.units unit n r → (n ≡ 0) × (r ≡ 0)
-flat zero n r h = by n r h
-  where
-    by : (n r : ℕ) → IsRoot block_intent.supplies [] n r → (n ≡ 0) × (r ≡ 0)
-    by _ _ (IsRoot.stopped n here) = absurd here
-    by _ _ (IsRoot.unfed zero none) = (refl, refl)
-    by _ _ (IsRoot.unfed (suc n) none) = cc
-    by _ _ (IsRoot.fed zero b r off step rest) = cc
-    by _ _ (IsRoot.fed (suc n) b r off step rest) = cc
-flat (suc unit) n r h = by n r h
-  where
-    by : (n r : ℕ) → IsRoot block_intent.supplies [] n r → (n ≡ 0) × (r ≡ 0)
-    by _ _ (IsRoot.stopped n here) = absurd here
-    by _ _ (IsRoot.unfed zero none) = (refl, refl)
-    by _ _ (IsRoot.unfed (suc n) none) = cc
-    by _ _ (IsRoot.fed zero b r off step rest) = cc
-    by _ _ (IsRoot.fed (suc n) b r off step rest) = cc
+flat zero n r h = flat_root n r h
+flat (suc unit) n r h = flat_root n r h
 
 -- it is off or at 0.8 V
 no_switch : (unit n : ℕ) → ¬ IsSwitchOutput block_intent.supplies unit n

@@ -1,6 +1,6 @@
 -- Domains of the worked block: elements, inherited and excluded instances, an instance without domain and one with two.
-use Rattle.std.proofs.Common.{◌≡◌, ◌≢◌, ℕ, zero, suc, ◌<◌, ◌≤◌, List, [], ◌∷◌, Some, option_map, slice_get, inl, inr, ◌⊎◌, refl, sym, ap, subst, arith}
-use Rattle.std.specs.Prelude.{codes, unwrap_or}
+use Rattle.std.proofs.Common.{◌≡◌, ◌≢◌, ℕ, zero, suc, ◌<◌, ◌≤◌, [], ◌∷◌, Some, slice_get, inl, inr, ◌⊎◌, refl, sym, subst, arith}
+use Rattle.std.specs.Prelude.{codes}
 use Rattle.std.specs.Ordering.{nat_cmp}
 use Rattle.std.specs.declared.cmp.Ordering.TheVariants.{Less}
 use Rattle.std.proofs.lemmas.Cmp.{ranked}
@@ -10,31 +10,11 @@ use Rattle.list_defs.specs.Members.{IsIn}
 use Rattle.design_defs.specs.Joined.{parent_of}
 use Rattle.domain_defs.specs.DomainFaults.{LacksDomain, HasDomainFault, element_cmp}
 use Rattle.domain_defs.specs.Members.{IsModelled, HasElement, Excludes, IsNoElement, IsInDomain}
+use Rattle.domain_defs.proofs.Elements.{elements_at, elements_of, excluded_of, the_one}
 use Rattle.domain_defs.proofs.WorkedDomains.{block, domain, two_domains, without_buffer, buffer_apart, block_twice}
-
-abbrev elements_at : List Domain → ℕ → List ℕ
-elements_at domains d = unwrap_or (option_map (λ (x : Domain). x.elements) (slice_get domains d)) []
-
-abbrev excluded_at : List Domain → ℕ → List ℕ
-excluded_at domains d = unwrap_or (option_map (λ (x : Domain). x.excluded) (slice_get domains d)) []
-
-elements_of : (domains : List Domain) (d inst : ℕ) → HasElement domains d inst → IsIn inst (elements_at domains d)
-elements_of domains d inst h =
-    let same : elements_at domains d ≡ h.0.elements = ap (λ o. unwrap_or (option_map (λ (x : Domain). x.elements) o) []) h.1 in
-    subst (IsIn inst) (sym same) h.2
-
-excluded_of : (domains : List Domain) (d inst : ℕ) → Excludes domains d inst → IsIn inst (excluded_at domains d)
-excluded_of domains d inst h =
-    let same : excluded_at domains d ≡ h.0.excluded = ap (λ o. unwrap_or (option_map (λ (x : Domain). x.excluded) o) []) h.1 in
-    subst (IsIn inst) (sym same) h.2
 
 less_from : (a b : ℕ) → nat_cmp a b ≡ Less → a < b
 less_from a b e = ranked a b Less (sym e)
-
--- it is one of a list of one
-the_one : (n x : ℕ) → IsIn n (x ∷ []) → n ≡ x
-the_one n x (inl e) = e
-the_one n x (inr none) = absurd none
 
 -- no model stands for an instance of the block
 pub plain : (inst : ℕ) → ¬ IsModelled block inst

@@ -14,7 +14,7 @@ use Rattle.list_defs.specs.Members.{IsIn}
 use Rattle.list_defs.specs.Orders.{IsRising}
 use Rattle.design_defs.specs.Joined.{parent_of}
 use Rattle.supply_defs.specs.Limits.{HasFewRoots, HasFewValues}
-use Rattle.supply_defs.specs.Network.{HasNoRing, IsUnfed}
+use Rattle.supply_defs.specs.Network.{HasNoFeederRing, IsUnfed}
 use Rattle.supply_defs.specs.UnitLists.{AreUnitLists}
 use Rattle.supply_defs.specs.UnitViews.{in_ports}
 use Rattle.domain_defs.specs.Members.{IsModelled}
@@ -40,7 +40,7 @@ pub record HasUnitsNested (design : Design) (units : List PowerUnit) : Type 0 wh
 
 -- no list of feeders comes back to a supply, and nothing feeds the `in` ports of the top
 pub record HasSoundNetwork (intent : Intent) : Type 0 where
-  pub no_ring : HasNoRing intent.supplies
+  pub no_ring : HasNoFeederRing intent.supplies
   pub top_unfed : (u : PowerUnit) (port : ℕ) → slice_get intent.units 0 ≡ Some u → IsIn port (in_ports intent.supplies u) → IsUnfed intent.supplies port
 
 -- each supply of a set is one of these

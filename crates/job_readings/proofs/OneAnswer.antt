@@ -1,5 +1,5 @@
 -- A job has one answer, where what is read makes sound designs and sound intents.
-use Rattle.std.proofs.Common.{◌≡◌, [], sym, subst}
+use Rattle.std.proofs.Common.{[], sym, subst}
 use Rattle.pw_outer.specs.Fetches.{Files}
 use Rattle.design_defs.specs.DesignFaults.{sources}
 use Rattle.design_defs.specs.Inputs.{AreReadSources}

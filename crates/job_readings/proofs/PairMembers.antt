@@ -1,7 +1,7 @@
 -- The domains of the instances of the two blocks: the top, the first block with its buffer, and the second with its own.
-use Rattle.std.proofs.Common.{◌≡◌, ℕ, zero, suc, ◌<◌, List, [], ◌∷◌, Some, None, inl, inr, ◌⊎◌, refl, sym, ap, subst, arith}
-use Rattle.std.proofs.Common.{option_map, slice_get}
-use Rattle.std.specs.Prelude.{codes, unwrap_or}
+use Rattle.std.proofs.Common.{◌≡◌, ℕ, zero, suc, ◌<◌, List, [], ◌∷◌, Some, None, inl, inr, ◌⊎◌, refl, subst, arith}
+use Rattle.std.proofs.Common.{slice_get}
+use Rattle.std.specs.Prelude.{codes}
 use Rattle.pw_defs.specs.declared.intent.Domain.{Domain}
 use Rattle.pw_defs.specs.declared.intent.SupplySet.{SupplySet}
 use Rattle.worked_jobs.specs.Designs.{pair}
@@ -9,6 +9,7 @@ use Rattle.list_defs.specs.Members.{IsIn}
 use Rattle.design_defs.specs.Joined.{parent_of}
 use Rattle.domain_defs.specs.DomainFaults.{AreDomainsOf, CannotHave}
 use Rattle.domain_defs.specs.Members.{IsModelled, HasElement, Excludes, IsNoElement, IsInDomain, IsEntry}
+use Rattle.domain_defs.proofs.Elements.{elements_at, excluded_at, elements_of, excluded_of, the_one}
 
 -- the three domains, whatever their primary sets
 abbrev pub three_domains : SupplySet → SupplySet → SupplySet → List Domain
@@ -16,26 +17,6 @@ three_domains p q r =
     record { name = codes "PT"; unit = 0; line = 9; elements = 0 ∷ []; excluded = []; primary = p; default_iso = None }
     ∷ record { name = codes "PA"; unit = 0; line = 10; elements = 1 ∷ []; excluded = []; primary = q; default_iso = None }
     ∷ record { name = codes "PB"; unit = 0; line = 11; elements = 3 ∷ []; excluded = []; primary = r; default_iso = None } ∷ []
-
-abbrev elements_at : List Domain → ℕ → List ℕ
-elements_at domains d = unwrap_or (option_map (λ (x : Domain). x.elements) (slice_get domains d)) []
-
-abbrev excluded_at : List Domain → ℕ → List ℕ
-excluded_at domains d = unwrap_or (option_map (λ (x : Domain). x.excluded) (slice_get domains d)) []
-
-elements_of : (domains : List Domain) (d inst : ℕ) → HasElement domains d inst → IsIn inst (elements_at domains d)
-elements_of domains d inst h =
-    let same : elements_at domains d ≡ h.0.elements = ap (λ o. unwrap_or (option_map (λ (x : Domain). x.elements) o) []) h.1 in
-    subst (IsIn inst) (sym same) h.2
-
-excluded_of : (domains : List Domain) (d inst : ℕ) → Excludes domains d inst → IsIn inst (excluded_at domains d)
-excluded_of domains d inst h =
-    let same : excluded_at domains d ≡ h.0.excluded = ap (λ o. unwrap_or (option_map (λ (x : Domain). x.excluded) o) []) h.1 in
-    subst (IsIn inst) (sym same) h.2
-
-the_one : (n x : ℕ) → IsIn n (x ∷ []) → n ≡ x
-the_one n x (inl e) = e
-the_one n x (inr none) = absurd none
 
 -- no model stands for an instance of the two blocks
 plain : (inst : ℕ) → ¬ IsModelled pair inst

@@ -1,3 +1,7 @@
 pub mod NameLemmas
 pub mod Members
+pub mod Few
 pub mod Rising
+pub mod OneList
+pub mod InOrder
+pub mod OneFound

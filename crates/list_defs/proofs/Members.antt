@@ -1,5 +1,5 @@
 -- Which things a filter keeps, and which ones joined and mapped lists have.
-use Rattle.std.proofs.Common.{◌≡◌, Bool, true, false, cond, List, [], ◌∷◌, ◌++◌, map, filter, ◌⊎◌, inl, inr, refl, subst}
+use Rattle.std.proofs.Common.{◌≡◌, ℕ, zero, suc, Bool, true, false, cond, List, [], ◌∷◌, ◌++◌, map, filter, Some, slice_get, ◌⊎◌, inl, inr, refl, subst}
 use Rattle.std.specs.List.{flat_map}
 use Rattle.list_defs.specs.Members.{IsIn}
 
@@ -57,3 +57,9 @@ IsIn-filter_from {X} p x (z ∷ xs) h = here (p z) refl h (IsIn-filter_from p x 
     here true e (inl same) rest = (inl same, cc)
     here true e (inr later) rest = let found = rest later in (inr found.0, found.1)
     here false e later rest = let found = rest later in (inr found.0, found.1)
+
+-- what stands at a place of a list is one of it
+pub IsIn-slice_get : {X : Type 0} (xs : List X) (n : ℕ) (x : X) → slice_get xs n ≡ Some x → IsIn x xs
+IsIn-slice_get [] n x e = cc
+IsIn-slice_get (y ∷ ys) zero x e = inl cc
+IsIn-slice_get (y ∷ ys) (suc n) x e = inr (IsIn-slice_get ys n x e)

@@ -36,14 +36,16 @@ pub IsRising-append : {X : Type 0} (cmp : X → X → Ordering) (xs ys : List X)
 IsRising-append cmp [] ys h k below = k
 IsRising-append cmp (x ∷ xs) ys h k below = (each_joined (λ y. cmp x y ≡ Less) xs ys h.0 below.0, IsRising-append cmp xs ys h.1 k below.1)
 
--- what comes before a thing doesn't come after it
-not_after : {X : Type 0} (cmp : X → X → Ordering) → IsTotalOrder cmp → (x y : X) → cmp x y ≡ Less → cmp y x ≢ Less
-not_after cmp total x y less more = let back : cmp x y ≡ ordering_reverse (cmp y x) = total.antisymm x y in
+-- of two things not both come before the other
+pub not_both_before : {X : Type 0} (cmp : X → X → Ordering) → IsTotalOrder cmp → (x y : X) → cmp x y ≡ Less → cmp y x ≢ Less
+not_both_before cmp total x y less more =
+    let back : cmp x y ≡ ordering_reverse (cmp y x) = total.antisymm x y in
     let greater : ordering_reverse (cmp y x) ≡ Greater = ap ordering_reverse more in
     cc
 
-not_itself : {X : Type 0} (cmp : X → X → Ordering) → IsTotalOrder cmp → (x : X) → cmp x x ≢ Less
-not_itself cmp total x less = not_after cmp total x x less less
+-- nothing comes before itself
+pub not_before_itself : {X : Type 0} (cmp : X → X → Ordering) → IsTotalOrder cmp → (x : X) → cmp x x ≢ Less
+not_before_itself cmp total x less = not_both_before cmp total x x less less
 
 -- the first that passes a test is one of the list and passes it
 pub found_in : {X : Type 0} (p : X → Bool) (xs : List X) (first : X) → find p xs ≡ Some first → IsIn first xs × (p first ≡ true)
@@ -63,10 +65,10 @@ none_before {X} cmp total p (x ∷ xs) first y rising e there passes =
   where
     here : (b : Bool) → p x ≡ b → cond b (Some x) (find p xs) ≡ Some first → (y ≡ x) ⊎ IsIn y xs
         → (find p xs ≡ Some first → IsIn y xs → cmp y first ≢ Less) → cmp y first ≢ Less
-    here true passed found (inl same) rest = let e : cmp y first ≡ cmp x x = cc in λ less. not_itself cmp total x (sym e ∙ less)
+    here true passed found (inl same) rest = let e : cmp y first ≡ cmp x x = cc in λ less. not_before_itself cmp total x (sym e ∙ less)
     here true passed found (inr later) rest =
         let e : cmp y first ≡ cmp y x = cc in
-        λ less. not_after cmp total x y (each_in (λ z. cmp x z ≡ Less) xs y rising.0 later) (sym e ∙ less)
+        λ less. not_both_before cmp total x y (each_in (λ z. cmp x z ≡ Less) xs y rising.0 later) (sym e ∙ less)
     here false failed found (inl same) rest = cc
     here false failed found (inr later) rest = rest found later
 

@@ -1,5 +1,5 @@
 -- Which things a list has.
-use Rattle.std.specs.Prelude.{◌≡◌, ℕ, Bool, true, not, ◌&&◌, ◌⊎◌, List, [], ◌∷◌, Option, None, Some, if◌then◌else◌, nat_eq}
+use Rattle.std.specs.Prelude.{◌≡◌, ℕ, ◌+◌, Bool, true, not, ◌&&◌, ◌⊎◌, List, [], ◌∷◌, length, slice_get, Option, None, Some, if◌then◌else◌, nat_eq}
 use Rattle.std.specs.List.{list_any}
 use Rattle.std.specs.Option.{option_map}
 use Rattle.std.specs.Cmp.Lexicographic.{pointwise}
@@ -23,3 +23,10 @@ place_of test (x ∷ xs) = if test x then Some 0 else option_map suc (place_of t
 -- whether two names are the same, byte by byte
 abbrev pub same_name : List ℕ → List ℕ → Bool
 same_name = pointwise nat_eq
+
+-- there are more than n things of a kind: a list of n + 1 different ones.
+pub record HasMoreThan {X : Type 0} (n : ℕ) (P : X → Type 0) : Type 0 where
+  pub things : List X
+  pub count : length things ≡ n + 1
+  pub each : (x : X) → IsIn x things → P x
+  pub different : (i j : ℕ) (x : X) → slice_get things i ≡ Some x → slice_get things j ≡ Some x → i ≡ j

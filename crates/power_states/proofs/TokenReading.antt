@@ -1,8 +1,9 @@
 -- A text has one list of words and marks.
-use Rattle.std.proofs.Common.{◌≡◌, ℕ, zero, suc, Bool, true, false, not, ◌&&◌, ◌||◌, List, [], ◌∷◌, ◌++◌, ◌==◌, Option, Some, None, refl, ◌∙◌, ap, length, ◌<◌, ◌≤◌, arith}
+use Rattle.std.proofs.Common.{◌≡◌, ℕ, zero, suc, Bool, true, false, not, ◌||◌, List, [], ◌∷◌, ◌++◌, ◌==◌, Option, Some, None, refl, ◌∙◌, ap, length, ◌<◌, ◌≤◌, arith}
 use Rattle.std.proofs.lemmas.Bool.{false≢true}
 use Rattle.std.specs.List.{list_all}
 use Rattle.tcl_words.specs.Pieces.{is_white}
+use Rattle.tcl_words.proofs.VariableNames.{and_first, and_second}
 use Rattle.power_states.specs.ExpressionWords.{Token, word, opens, shuts, bang, both, either, same, differs, brace, unbrace, comma, quote, is_mark, is_word_byte, begins_with, HasTokens, none, white, a_word, an_opens, a_shuts, a_bang, a_differs, a_both, an_either, a_same, a_brace, an_unbrace, a_comma, a_quote}
 
 -- the longest front of word bytes, and what is left behind it
@@ -13,14 +14,6 @@ word_front (b ∷ rest) = elim (is_word_byte b) [ true ↦ (b ∷ (word_front re
 not_begun : (left : List ℕ) → begins_with is_word_byte left ≡ false → word_front left ≡ ([], left)
 not_begun [] h = refl
 not_begun (b ∷ rest) h = rw (h, word_front) refl
-
-pub and_first : (a b : Bool) → (a && b) ≡ true → a ≡ true
-and_first true b h = refl
-and_first false b h = h
-
-pub and_second : (a b : Bool) → (a && b) ≡ true → b ≡ true
-and_second true b h = h
-and_second false b h = absurd (false≢true h)
 
 front_is : (front left : List ℕ) → list_all is_word_byte front ≡ true → begins_with is_word_byte left ≡ false → word_front (front ++ left) ≡ (front, left)
 front_is [] left each stop = not_begun left stop

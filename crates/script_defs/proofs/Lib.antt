@@ -10,6 +10,7 @@ pub mod TermLemmas
 pub mod Nesting
 pub mod WorkedFaults
 pub mod WorkedRuns
+pub mod Fields
 pub mod WorkedIntents
 pub mod WorkedReading
 pub mod FewRoots

@@ -18,7 +18,7 @@ use Rattle.list_defs.specs.Orders.{name_cmp}
 use Rattle.domain_defs.specs.DomainFaults.{LacksDomain, CannotHave, element_cmp}
 use Rattle.domain_defs.proofs.OneDomain.{element_cmp_total}
 use Rattle.supply_defs.specs.UnitLists.{AreUnitLists}
-use Rattle.supply_defs.proofs.OneList.{one_least}
+use Rattle.list_defs.proofs.OneList.{one_least}
 use Rattle.supply_defs.proofs.UnitListLaws.{one_unit_lists}
 use Rattle.script_defs.specs.World.{Object, World}
 use Rattle.script_defs.specs.Scopes.{is_modelled}

@@ -12,6 +12,7 @@ use Rattle.script_defs.specs.Runs.{first_frame, fresh}
 use Rattle.script_defs.specs.StrategiesOf.{IsIntentOf}
 use Rattle.script_defs.specs.Worked.{bits_statements}
 use Rattle.script_defs.proofs.Behind.{pair_world, world_behind}
+use Rattle.script_defs.proofs.Fields.{beside, domain_so, strategy_so}
 
 -- The intent of the two blocks is that of its world, where its lists of values and of domains are those of its supplies
 -- and domains.
@@ -23,43 +24,8 @@ pair_is_intent lists members = record {
   units_are = (record { inst_is = refl; outer_is = refl; passed_is = refl; ports_are = refl; exports_are = tt }, tt);
   supplies_are = refl;
   lists_are = lists;
-  domains_are = (
-    record {
-      name_is = refl;
-      unit_is = refl;
-      line_is = refl;
-      elements_are = refl;
-      excluded_are = refl;
-      primary_is = record
-          { power_is = refl; ground_is = refl };
-      default_is = tt;
-    },
-    (
-      record {
-        name_is = refl;
-        unit_is = refl;
-        line_is = refl;
-        elements_are = refl;
-        excluded_are = refl;
-        primary_is = record
-            { power_is = refl; ground_is = refl };
-        default_is = tt;
-      },
-      (
-        record {
-          name_is = refl;
-          unit_is = refl;
-          line_is = refl;
-          elements_are = refl;
-          excluded_are = refl;
-          primary_is = record
-              { power_is = refl; ground_is = refl };
-          default_is = tt;
-        },
-        tt,
-      ),
-    ),
-  );
+  domains_are = beside (domain_so _ _ _ _ refl refl refl refl refl (record { power_is = refl; ground_is = refl }) tt) (beside (domain_so _ _ _ _ refl refl refl refl refl (record { power_is = refl; ground_is = refl }) tt)
+      (beside (domain_so _ _ _ _ refl refl refl refl refl (record { power_is = refl; ground_is = refl }) tt) tt));
   members_are = members;
   strategies_are = tt;
   cell_sets_are = tt;
@@ -80,81 +46,11 @@ bits_is_intent lists members = record {
   units_are = (record { inst_is = refl; outer_is = refl; passed_is = refl; ports_are = refl; exports_are = tt }, tt);
   supplies_are = refl;
   lists_are = lists;
-  domains_are = (
-    record {
-      name_is = refl;
-      unit_is = refl;
-      line_is = refl;
-      elements_are = refl;
-      excluded_are = refl;
-      primary_is = record
-          { power_is = refl; ground_is = refl };
-      default_is = tt;
-    },
-    (
-      record {
-        name_is = refl;
-        unit_is = refl;
-        line_is = refl;
-        elements_are = refl;
-        excluded_are = refl;
-        primary_is = record
-            { power_is = refl; ground_is = refl };
-        default_is = tt;
-      },
-      tt,
-    ),
-  );
+  domains_are = beside (domain_so _ _ _ _ refl refl refl refl refl (record { power_is = refl; ground_is = refl }) tt) (beside (domain_so _ _ _ _ refl refl refl refl refl (record { power_is = refl; ground_is = refl }) tt) tt);
   members_are = members;
-  strategies_are = (
-    record {
-      domain_is = refl;
-      elements_are = refl;
-      excluded_are = refl;
-      inputs_is = refl;
-      outputs_is = refl;
-      upper_is = refl;
-      lower_is = refl;
-      cells_are = refl;
-      source_is = tt;
-      sink_is = tt;
-      diff_is = refl;
-      act_is = record { supply = None; supply_is = tt; act_is = refl };
-    },
-    (
-      record {
-        domain_is = refl;
-        elements_are = refl;
-        excluded_are = refl;
-        inputs_is = refl;
-        outputs_is = refl;
-        upper_is = refl;
-        lower_is = refl;
-        cells_are = refl;
-        source_is = tt;
-        sink_is = tt;
-        diff_is = refl;
-        act_is = record { supply = Some vector_set; supply_is = record { power_is = refl; ground_is = refl }; act_is = refl };
-      },
-      (
-        record {
-          domain_is = refl;
-          elements_are = refl;
-          excluded_are = refl;
-          inputs_is = refl;
-          outputs_is = refl;
-          upper_is = refl;
-          lower_is = refl;
-          cells_are = refl;
-          source_is = tt;
-          sink_is = tt;
-          diff_is = refl;
-          act_is = record { supply = Some vector_set; supply_is = record { power_is = refl; ground_is = refl }; act_is = refl };
-        },
-        tt,
-      ),
-    ),
-  );
+  strategies_are = beside (strategy_so _ _ _ _ refl refl refl refl refl refl refl refl tt tt refl (record { supply = None; supply_is = tt; act_is = refl }))
+      (beside (strategy_so _ _ _ _ refl refl refl refl refl refl refl refl tt tt refl (record { supply = Some vector_set; supply_is = record { power_is = refl; ground_is = refl }; act_is = refl }))
+      (beside (strategy_so _ _ _ _ refl refl refl refl refl refl refl refl tt tt refl (record { supply = Some vector_set; supply_is = record { power_is = refl; ground_is = refl }; act_is = refl })) tt));
   cell_sets_are = tt;
   port_sets_are = tt;
   conds_are = refl;

@@ -18,6 +18,7 @@ use Rattle.script_defs.specs.Closing.{Closed, HasNoClosingFault, IsClosingFault}
 use Rattle.script_defs.specs.Loads.{IsClosedOf, LoadsTo}
 use Rattle.script_defs.proofs.FewRoots.{few_supplies}
 use Rattle.script_defs.proofs.Behind.{pair_world}
+use Rattle.script_defs.proofs.Fields.{beside, domain_by_elements}
 use Rattle.script_defs.proofs.WorkedIntents.{pair_is_intent}
 use Rattle.script_defs.proofs.WorkedReading.{base_script_runs}
 
@@ -52,25 +53,7 @@ pair_ends_are lists = record {
   supplies_are = refl;
   lists_are = lists;
   units_are = (record { inst_is = refl; outer_is = refl; passed_is = refl; ports_are = refl; exports_are = tt }, tt);
-  domains_are = (
-    record { name_is = refl; unit_is = refl; line_is = refl; elements_are = refl; excluded_are = refl; power_is = refl; no_ground = refl; no_default = refl },
-    (
-      record { name_is = refl; unit_is = refl; line_is = refl; elements_are = refl; excluded_are = refl; power_is = refl; no_ground = refl; no_default = refl },
-      (
-        record {
-          name_is = refl;
-          unit_is = refl;
-          line_is = refl;
-          elements_are = refl;
-          excluded_are = refl;
-          power_is = refl;
-          no_ground = refl;
-          no_default = refl;
-        },
-        tt,
-      ),
-    ),
-  );
+  domains_are = beside (domain_by_elements _ _ _ _ refl refl refl refl refl refl refl refl) (beside (domain_by_elements _ _ _ _ refl refl refl refl refl refl refl refl) (beside (domain_by_elements _ _ _ _ refl refl refl refl refl refl refl refl) tt));
 }
 
 -- No check refuses the base script, where each instance has its domain.

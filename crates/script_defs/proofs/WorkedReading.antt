@@ -1,27 +1,29 @@
 -- The base script is read as its statements, and its lines take the fresh world to its world.
-use Rattle.std.proofs.Common.{ℕ, List, [], ◌∷◌, Option, refl, inl, inr, subst, sym, lit≤, lit<}
+use Rattle.std.proofs.Common.{◌≡◌, ℕ, Ok, List, [], ◌∷◌, Option, refl, inl, inr, subst, sym, lit≤, lit<}
 use Rattle.std.specs.Prelude.{codes}
 use Rattle.std.specs.List.{AllZip, zip}
 use Rattle.pw_defs.specs.declared.script.Command.{Command}
 use Rattle.pw_defs.specs.declared.script.Line.{Line}
 use Rattle.pw_defs.specs.declared.values.Value.TheVariants.{Off, On}
 use Rattle.list_defs.specs.Members.{IsIn}
-use Rattle.tcl_words.proofs.ListLaws.{parts_so}
+use Rattle.tcl_words.proofs.ListLaws.{parting, parts_so}
 use Rattle.upf_commands.proofs.WorkedScripts.{pair_lines_are_commands}
 use Rattle.upf_commands.proofs.WorkedValues.{state_on, state_off}
 use Rattle.upf_commands.specs.CommandWords.{row_of}
 use Rattle.upf_commands.specs.Commands.{IsCommand}
 use Rattle.upf_commands.specs.CommandTable.{commands}
+use Rattle.upf_commands.specs.Forms.{ListForm}
 use Rattle.upf_commands.specs.Values.{IsSupplyState}
 use Rattle.upf_commands.specs.Voltages.{one, on}
 use Rattle.worked_jobs.specs.Commands.{pair_commands}
 use Rattle.worked_jobs.specs.Designs.{pair}
 use Rattle.worked_jobs.specs.Lines.{pair_lines}
-use Rattle.script_defs.specs.Statements.{Statement}
-use Rattle.script_defs.specs.ReadStatements.{IsStatementOf, IsStatement, readers}
+use Rattle.script_defs.specs.Statements.{Parts, Statement}
+use Rattle.script_defs.specs.ReadStatements.{IsListSaid, IsStatementOf, IsStatement, readers}
 use Rattle.script_defs.specs.Runs.{RunsTo, fresh}
 use Rattle.script_defs.specs.Worked.{pair_statements}
 use Rattle.script_defs.proofs.Behind.{base, pair_world}
+use Rattle.script_defs.proofs.Fields.{beside, clause_so, statement_so}
 use Rattle.script_defs.proofs.WorkedRuns.{fine_lines_run, pair_is_fine}
 
 -- what goes with each other item by item is in the list of pairs
@@ -31,6 +33,13 @@ each_pair R [] (y ∷ ys) all p i = absurd all
 each_pair R (x ∷ xs) [] all p i = absurd all
 each_pair {X} {Y} R (x ∷ xs) (y ∷ ys) all p (inl e) = let P : X × Y → Type 0 = λ q. R q.0 q.1 in subst P (sym e) all.0
 each_pair R (x ∷ xs) (y ∷ ys) all p (inr i) = each_pair R xs ys all.1 p i
+
+-- what a value of two words says, and one of one word
+paired : (text first second : List ℕ) → parting text ≡ Ok (first ∷ second ∷ []) → IsListSaid ListForm.pair text (Parts.pair first second)
+paired text first second e = (first, second, parts_so text (first ∷ second ∷ []) e, refl)
+
+listed : (text word : List ℕ) → parting text ≡ Ok (word ∷ []) → IsListSaid ListForm.names text (Parts.names (word ∷ []))
+listed text word e = (word ∷ [], parts_so text (word ∷ []) e, refl)
 
 no_volts : IsSupplyState (codes "gnd 0") (codes "gnd") (On 0)
 no_volts = record {
@@ -42,244 +51,24 @@ no_volts = record {
 
 pub pair_commands_are_statements : AllZip IsStatementOf pair_commands pair_statements
 unfolding row_of commands
-pair_commands_are_statements = (
-  record { name_is = refl; args_are = refl; line_is = refl; passed_is = refl; clauses_are = tt },
-  (
-    record { name_is = refl; args_are = refl; line_is = refl; passed_is = refl; clauses_are = tt },
-    (
-      record { name_is = refl; args_are = refl; line_is = refl; passed_is = refl; clauses_are = tt },
-      (
-        record {
-          name_is = refl;
-          args_are = refl;
-          line_is = refl;
-          passed_is = refl;
-          clauses_are = (
-            record { option_is = refl; bytes_are = refl; row = _; row_is = refl; said = (codes "off", Off, state_off, refl) },
-            (record { option_is = refl; bytes_are = refl; row = _; row_is = refl; said = (codes "on", On 800000, state_on, refl) }, tt),
-          );
-        },
-        (
-          record {
-            name_is = refl;
-            args_are = refl;
-            line_is = refl;
-            passed_is = refl;
-            clauses_are = (
-              record { option_is = refl; bytes_are = refl; row = _; row_is = refl; said = (codes "on", On 800000, state_on, refl) },
-              tt,
-            );
-          },
-          (
-            record {
-              name_is = refl;
-              args_are = refl;
-              line_is = refl;
-              passed_is = refl;
-              clauses_are = (
-                record { option_is = refl; bytes_are = refl; row = _; row_is = refl; said = (codes "gnd", On 0, no_volts, refl) },
-                tt,
-              );
-            },
-            (
-              record {
-                name_is = refl;
-                args_are = refl;
-                line_is = refl;
-                passed_is = refl;
-                clauses_are = (
-                  record {
-                    option_is = refl;
-                    bytes_are = refl;
-                    row = _;
-                    row_is = refl;
-                    said = (
-                      codes "power",
-                      codes "VA",
-                      parts_so (codes "power VA")
-                          (codes "power" ∷ codes "VA" ∷ []) refl,
-                      refl,
-                    );
-                  },
-                  (
-                    record {
-                      option_is = refl;
-                      bytes_are = refl;
-                      row = _;
-                      row_is = refl;
-                      said = (
-                        codes "ground",
-                        codes "VSS",
-                        parts_so (codes "ground VSS")
-                            (codes "ground" ∷ codes "VSS" ∷ []) refl,
-                        refl,
-                      );
-                    },
-                    tt,
-                  ),
-                );
-              },
-              (
-                record {
-                  name_is = refl;
-                  args_are = refl;
-                  line_is = refl;
-                  passed_is = refl;
-                  clauses_are = (
-                    record {
-                      option_is = refl;
-                      bytes_are = refl;
-                      row = _;
-                      row_is = refl;
-                      said = (
-                        codes "power",
-                        codes "VB",
-                        parts_so (codes "power VB")
-                            (codes "power" ∷ codes "VB" ∷ []) refl,
-                        refl,
-                      );
-                    },
-                    (
-                      record {
-                        option_is = refl;
-                        bytes_are = refl;
-                        row = _;
-                        row_is = refl;
-                        said = (
-                          codes "ground",
-                          codes "VSS",
-                          parts_so
-                              (codes "ground VSS") (codes "ground" ∷ codes "VSS" ∷ []) refl,
-                          refl,
-                        );
-                      },
-                      tt,
-                    ),
-                  );
-                },
-                (
-                  record {
-                    name_is = refl;
-                    args_are = refl;
-                    line_is = refl;
-                    passed_is = refl;
-                    clauses_are = (
-                      record {
-                        option_is = refl;
-                        bytes_are = refl;
-                        row = _;
-                        row_is = refl;
-                        said = (
-                          codes "." ∷ [],
-                          parts_so (codes ".") (codes "."
-                              ∷ []) refl,
-                          refl,
-                        );
-                      },
-                      (
-                        record {
-                          option_is = refl;
-                          bytes_are = refl;
-                          row = _;
-                          row_is = refl;
-                          said = (
-                            codes "primary",
-                            codes "SB",
-                            parts_so
-                                (codes "primary SB") (codes "primary" ∷ codes "SB" ∷ []) refl,
-                            refl,
-                          );
-                        },
-                        tt,
-                      ),
-                    );
-                  },
-                  (
-                    record {
-                      name_is = refl;
-                      args_are = refl;
-                      line_is = refl;
-                      passed_is = refl;
-                      clauses_are = (
-                        record {
-                          option_is = refl;
-                          bytes_are = refl;
-                          row = _;
-                          row_is = refl;
-                          said = (
-                            codes "u_a" ∷ [],
-                            parts_so (codes "u_a") (codes "u_a"
-                                ∷ []) refl,
-                            refl,
-                          );
-                        },
-                        (
-                          record {
-                            option_is = refl;
-                            bytes_are = refl;
-                            row = _;
-                            row_is = refl;
-                            said = (
-                              codes "primary",
-                              codes "SA",
-                              parts_so
-                                  (codes "primary SA") (codes "primary" ∷ codes "SA" ∷ []) refl,
-                              refl,
-                            );
-                          },
-                          tt,
-                        ),
-                      );
-                    },
-                    (
-                      record {
-                        name_is = refl;
-                        args_are = refl;
-                        line_is = refl;
-                        passed_is = refl;
-                        clauses_are = (
-                          record {
-                            option_is = refl;
-                            bytes_are = refl;
-                            row = _;
-                            row_is = refl;
-                            said = (
-                              codes "u_b" ∷ [],
-                              parts_so (codes "u_b")
-                                  (codes "u_b" ∷ []) refl,
-                              refl,
-                            );
-                          },
-                          (
-                            record {
-                              option_is = refl;
-                              bytes_are = refl;
-                              row = _;
-                              row_is = refl;
-                              said = (
-                                codes "primary",
-                                codes "SB",
-                                parts_so
-                                    (codes "primary SB") (codes "primary" ∷ codes "SB" ∷ []) refl,
-                                refl,
-                              );
-                            },
-                            tt,
-                          ),
-                        );
-                      },
-                      tt,
-                    ),
-                  ),
-                ),
-              ),
-            ),
-          ),
-        ),
-      ),
-    ),
-  ),
-)
+pair_commands_are_statements =
+    beside (statement_so _ _ refl refl refl refl tt)
+    (beside (statement_so _ _ refl refl refl refl tt)
+    (beside (statement_so _ _ refl refl refl refl tt)
+    (beside (statement_so _ _ refl refl refl refl (beside (clause_so _ _ _ _ refl refl refl (codes "off", Off, state_off, refl))
+    (beside (clause_so _ _ _ _ refl refl refl (codes "on", On 800000, state_on, refl)) tt)))
+    (beside (statement_so _ _ refl refl refl refl (beside (clause_so _ _ _ _ refl refl refl (codes "on", On 800000, state_on, refl)) tt))
+    (beside (statement_so _ _ refl refl refl refl (beside (clause_so _ _ _ _ refl refl refl (codes "gnd", On 0, no_volts, refl)) tt))
+    (beside (statement_so _ _ refl refl refl refl (beside (clause_so _ _ _ _ refl refl refl (paired _ (codes "power") (codes "VA") refl))
+    (beside (clause_so _ _ _ _ refl refl refl (paired _ (codes "ground") (codes "VSS") refl)) tt)))
+    (beside (statement_so _ _ refl refl refl refl (beside (clause_so _ _ _ _ refl refl refl (paired _ (codes "power") (codes "VB") refl))
+    (beside (clause_so _ _ _ _ refl refl refl (paired _ (codes "ground") (codes "VSS") refl)) tt)))
+    (beside (statement_so _ _ refl refl refl refl (beside (clause_so _ _ _ _ refl refl refl (listed _ (codes ".") refl))
+    (beside (clause_so _ _ _ _ refl refl refl (paired _ (codes "primary") (codes "SB") refl)) tt)))
+    (beside (statement_so _ _ refl refl refl refl (beside (clause_so _ _ _ _ refl refl refl (listed _ (codes "u_a") refl))
+    (beside (clause_so _ _ _ _ refl refl refl (paired _ (codes "primary") (codes "SA") refl)) tt)))
+    (beside (statement_so _ _ refl refl refl refl (beside (clause_so _ _ _ _ refl refl refl (listed _ (codes "u_b") refl))
+    (beside (clause_so _ _ _ _ refl refl refl (paired _ (codes "primary") (codes "SB") refl)) tt))) tt))))))))))
 
 statements_of : (lines : List Line) (cs : List Command) (ss : List Statement) → AllZip IsCommand lines cs → AllZip IsStatementOf cs ss
     → AllZip IsStatement lines ss

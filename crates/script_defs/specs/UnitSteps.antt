@@ -1,6 +1,6 @@
 -- What the lines on units and frames make: marks of soft macros, power models, scopes, the frames that a line opens, and
 -- the map of supplies behind a frame.
-use Rattle.std.specs.Prelude.{ℕ, Bool, true, false, ◌&&◌, ◌||◌, List, [], ◌∷◌, ◌++◌, Option, None, Some, option_map, option_and_then, unwrap_or, is_some, option_to_list, map, codes, if◌then◌else◌}
+use Rattle.std.specs.Prelude.{ℕ, Bool, false, ◌&&◌, ◌||◌, List, [], ◌∷◌, ◌++◌, Option, None, Some, option_map, option_and_then, unwrap_or, is_some, option_to_list, map, codes, if◌then◌else◌}
 use Rattle.std.specs.List.{list_any, list_all, find, filter_map, flat_map}
 use Rattle.pw_defs.specs.declared.design.Design.{Design}
 use Rattle.pw_defs.specs.declared.intent.Export.{Export}

@@ -1,5 +1,3 @@
-pub mod InOrder
-pub mod OneFound
 pub mod OneFinding
 pub mod OneSeen
 pub mod OneElement

@@ -16,8 +16,8 @@ use Rattle.supply_defs.proofs.Roots.{one_root}
 use Rattle.supply_defs.proofs.UnitListLaws.{one_list_of_values}
 use Rattle.signoff_defs.specs.Boundaries.{MacroPort, HasValuesIn, IsBeyond, IsBoundary, IsNoBoundary, AreBoundaries, boundary_cmp, macro_ports, values_beyond}
 use Rattle.signoff_defs.proofs.SoundSupplies.{HasSoundSupplies}
-use Rattle.signoff_defs.proofs.InOrder.{put_once}
-use Rattle.signoff_defs.proofs.OneFound.{found_once}
+use Rattle.list_defs.proofs.InOrder.{put_once}
+use Rattle.list_defs.proofs.OneFound.{found_once}
 
 values_once : (i : Intent) → HasSoundSupplies i → (unit supply : ℕ) (v w : List Value) → HasValuesIn i unit supply v → HasValuesIn i unit supply w → v ≡ w
 values_once i sound unit supply v w a b =

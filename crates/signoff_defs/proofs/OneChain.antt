@@ -30,8 +30,8 @@ use Rattle.signoff_defs.specs.Reports.{AreWatches, named_watches}
 use Rattle.signoff_defs.specs.UnitsOf.{IsUnitOf}
 use Rattle.signoff_defs.specs.WalkParts.{walk_parts}
 use Rattle.signoff_defs.proofs.OneElement.{elements_once}
-use Rattle.signoff_defs.proofs.OneFound.{found_once}
-use Rattle.signoff_defs.proofs.OneSeen.{zip_once}
+use Rattle.list_defs.proofs.OneFound.{found_once}
+use Rattle.list_defs.proofs.OneFound.{zip_once}
 
 -- ---- walks
 

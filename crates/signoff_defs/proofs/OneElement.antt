@@ -19,7 +19,7 @@ use Rattle.domain_defs.proofs.FaceLaws.{one_pair_of_faces, faces_or_agree}
 use Rattle.signoff_defs.specs.Elements.{AreSeenAt, HasInput, IsSeenCell, IsElement, HasNoElement, AreElements}
 use Rattle.signoff_defs.specs.Seen.{IsSeenCandidate}
 use Rattle.signoff_defs.specs.WalkParts.{Part}
-use Rattle.signoff_defs.proofs.OneFound.{found_once}
+use Rattle.list_defs.proofs.OneFound.{found_once}
 use Rattle.signoff_defs.proofs.OneSeen.{candidates_once, seen_once, stated_once}
 
 at_once : (d : Design) (i : Intent) (unit : ℕ) (face : Face) (xs ys : List Candidate) → AreSeenAt d i unit face xs → AreSeenAt d i unit face ys → xs ≡ ys

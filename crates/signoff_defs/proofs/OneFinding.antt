@@ -10,11 +10,11 @@ use Rattle.pw_defs.specs.declared.report.Finding.{Finding}
 use Rattle.pw_defs.specs.declared.values.State.{State}
 use Rattle.pw_defs.specs.declared.values.Value.{Value}
 use Rattle.pw_defs.specs.declared.values.Value.TheVariants.{Off, On}
-use Rattle.supply_defs.proofs.OneList.{one_least}
+use Rattle.list_defs.proofs.OneList.{one_least}
 use Rattle.supply_defs.proofs.TotalOrders.{state_cmp_total}
 use Rattle.signoff_defs.specs.Witnesses.{LegalStates, IsVisiblePart, IsWitness}
 use Rattle.signoff_defs.specs.Findings.{NamedWatch, IsFindingOf, IsQuiet, AreFindings}
-use Rattle.signoff_defs.proofs.OneFound.{found_once}
+use Rattle.list_defs.proofs.OneFound.{found_once}
 
 value_cmp_antisymmetric : IsAntisymmetric value_cmp
 value_cmp_antisymmetric Off Off e = refl

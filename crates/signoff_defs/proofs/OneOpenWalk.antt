@@ -13,15 +13,15 @@ use Rattle.pw_defs.specs.declared.intent.Intent.{Intent}
 use Rattle.list_defs.specs.Orders.{IsPutInOrder}
 use Rattle.design_defs.specs.CutWalks.{IsWalkInside, WalkEnd, at_inputs}
 use Rattle.design_defs.proofs.CutWalking.{one_cut_walk}
-use Rattle.supply_defs.proofs.OneList.{one_list}
+use Rattle.list_defs.proofs.OneList.{one_list}
 use Rattle.signoff_defs.specs.Elements.{AreElements}
-use Rattle.signoff_defs.specs.Found.{AreFound}
+use Rattle.list_defs.specs.Found.{AreFound}
 use Rattle.signoff_defs.specs.OpenWalks.{IsOutputBit, IsReceiverInside, IsOutputAt, IsReceiverAt, AreTold, IsUndriven, IsOpenWalk, HasNoOpenWalk, AreOpenWalks, says_something, place_cmp, taker, taker_cmp}
 use Rattle.signoff_defs.specs.WalkParts.{walk_parts}
-use Rattle.signoff_defs.proofs.InOrder.{put_once}
+use Rattle.list_defs.proofs.InOrder.{put_once}
 use Rattle.signoff_defs.proofs.OneChain.{set_once, same_driver}
 use Rattle.signoff_defs.proofs.OneElement.{elements_once}
-use Rattle.signoff_defs.proofs.OneFound.{found_once}
+use Rattle.list_defs.proofs.OneFound.{found_once}
 
 -- an output bit of an instance is no receiver inside it
 no_receiver : (d : Design) (inst b c : ℕ) (p q : PortBit) → b ≡ c → IsOutputBit d inst b p → IsReceiverInside d inst c q → ⊥

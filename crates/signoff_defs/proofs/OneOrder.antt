@@ -20,14 +20,14 @@ use Rattle.list_defs.specs.Orders.{IsRising, AreAllRising}
 use Rattle.list_defs.proofs.Members.{IsIn-append_cases}
 use Rattle.list_defs.proofs.Rising.{each_in}
 use Rattle.supply_defs.specs.Places.{ArePlaces}
-use Rattle.supply_defs.specs.UnitViews.{in_ports, kind_at}
-use Rattle.supply_defs.proofs.OneList.{one_list}
+use Rattle.supply_defs.specs.UnitViews.{in_ports}
+use Rattle.list_defs.proofs.OneList.{one_list}
 use Rattle.supply_defs.proofs.OnePlace.{one_list_of_places}
 use Rattle.supply_defs.proofs.UnitListLaws.{one_job_list}
 use Rattle.signoff_defs.proofs.SoundSupplies.{HasSoundSupplies}
 use Rattle.signoff_defs.specs.RootOrders.{RootOrder, IsHidden, HasJobValues, IsRootOrder}
 use Rattle.signoff_defs.specs.Visibility.{IsOtherRoot, IsInterface, IsVisible, AreVisibleFor, root_cmp, supply_name, model_number}
-use Rattle.signoff_defs.proofs.OneSeen.{zip_once}
+use Rattle.list_defs.proofs.OneFound.{zip_once}
 
 pub root_cmp_total : (d : Design) (i : Intent) → IsTotalOrder (root_cmp d i)
 root_cmp_total d i = then_total (on_total (supply_name i) nat_list_cmp_total)

@@ -13,13 +13,13 @@ use Rattle.pw_defs.specs.declared.report.Report.{Report}
 use Rattle.list_defs.specs.Orders.{IsRising, IsPutInOrder}
 use Rattle.supply_defs.specs.Places.{ArePlaces}
 use Rattle.signoff_defs.specs.Findings.{NamedWatch, AreFindings, finding_cmp}
-use Rattle.signoff_defs.specs.Kinds.{kind_number}
+use Rattle.pw_defs.specs.Kinds.{kind_number}
 use Rattle.signoff_defs.specs.Laws.{HasOneReport}
 use Rattle.signoff_defs.specs.Reports.{AreLegalStates, AreWatches, legal_states}
 use Rattle.signoff_defs.specs.RootOrders.{RootOrder}
 use Rattle.signoff_defs.specs.Visibility.{AreVisibleFor, root_cmp, supply_name}
 use Rattle.signoff_defs.specs.Witnesses.{LegalStates}
-use Rattle.signoff_defs.proofs.InOrder.{put_once}
+use Rattle.list_defs.proofs.InOrder.{put_once}
 use Rattle.signoff_defs.proofs.OneBoundary.{boundaries_once}
 use Rattle.signoff_defs.proofs.OneChain.{all_chains_once, watches_once}
 use Rattle.signoff_defs.proofs.OneFinding.{findings_once}

@@ -1,5 +1,5 @@
 -- Candidates have one view by roots, and a face one list of them.
-use Rattle.std.proofs.Common.{◌≡◌, ℕ, Bool, List, [], ◌∷◌, Option, Some, sym, ap, subst, ◌∙◌, refl}
+use Rattle.std.proofs.Common.{◌≡◌, ℕ, Bool, List, Option, Some, sym, ap, subst, ◌∙◌, refl}
 use Rattle.std.specs.List.{AllZip}
 use Rattle.pw_defs.specs.declared.design.Design.{Design}
 use Rattle.pw_defs.specs.declared.intent.Face.{Face}
@@ -16,7 +16,8 @@ use Rattle.supply_defs.proofs.SameSets.{one_set_of_roots}
 use Rattle.domain_defs.specs.Precedence.{AreCandidates, candidate_cmp}
 use Rattle.domain_defs.proofs.OneChoice.{one_list_of_candidates, candidate_cmp_total}
 use Rattle.signoff_defs.specs.Seen.{HasRootsIfStated, IsSeenFilter, IsSeenAct, IsSeenCandidate}
-use Rattle.signoff_defs.proofs.InOrder.{put_once}
+use Rattle.list_defs.proofs.InOrder.{put_once}
+use Rattle.list_defs.proofs.OneFound.{zip_once}
 
 -- ---- views by roots
 
@@ -60,19 +61,6 @@ candidate_with {c} {e} {f} {g} {a} {b} x y z = cc
 candidate_once : (supplies : List Supply) (stop : List ℕ) (c x y : Candidate) → IsSeenCandidate supplies stop c x → IsSeenCandidate supplies stop c y → x ≡ y
 candidate_once supplies stop c x y p q = candidate_with (p.class ∙ sym q.class) (filter_once supplies stop c.filter x.filter y.filter p.filter q.filter)
     (act_once supplies stop c.act c.act x.act y.act refl p.act q.act)
-
--- a list is determined where each of its items is
-pub zip_once : {A B : Type 0} (R : A → B → Type 0) → ((a : A) (x y : B) → R a x → R a y → x ≡ y) → (keys : List A) (xs ys : List B) → AllZip R keys xs
-    → AllZip R keys ys → xs ≡ ys
-zip_once R one [] [] [] p q = refl
-zip_once R one [] [] (y ∷ ys) p q = absurd q
-zip_once R one [] (x ∷ xs) ys p q = absurd p
-zip_once R one (a ∷ keys) [] ys p q = absurd p
-zip_once R one (a ∷ keys) (x ∷ xs) [] p q = absurd q
-zip_once R one (a ∷ keys) (x ∷ xs) (y ∷ ys) p q =
-    let first : x ≡ y = one a x y p.0 q.0 in
-    let rest : xs ≡ ys = zip_once R one keys xs ys p.1 q.1 in
-    cc
 
 pub seen_once : (supplies : List Supply) (stop : List ℕ) (cs xs ys : List Candidate) → AllZip (IsSeenCandidate supplies stop) cs xs
     → AllZip (IsSeenCandidate supplies stop) cs ys → xs ≡ ys

@@ -11,7 +11,7 @@ use Rattle.pw_defs.specs.declared.chains.Watch.{Watch}
 use Rattle.pw_defs.specs.declared.intent.SupplySet.{SupplySet}
 use Rattle.list_defs.specs.Orders.{IsRising}
 use Rattle.signoff_defs.specs.Crossings.{Crossing}
-use Rattle.signoff_defs.specs.Kinds.{kind_number}
+use Rattle.pw_defs.specs.Kinds.{kind_number}
 use Rattle.signoff_defs.specs.Watches.{watched_if, kinds_on, watches_on}
 
 abbrev pub watch_cmp : Watch → Watch → Ordering

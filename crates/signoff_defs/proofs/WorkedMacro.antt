@@ -14,7 +14,7 @@ use Rattle.domain_defs.specs.Faces.{HasFaces}
 use Rattle.worked_jobs.specs.Designs.{chip}
 use Rattle.signoff_defs.specs.Boundaries.{AreBoundaries, HasValuesIn}
 use Rattle.signoff_defs.specs.Elements.{AreSeenAt, IsElement}
-use Rattle.signoff_defs.specs.Found.{AreFound}
+use Rattle.list_defs.specs.Found.{AreFound}
 use Rattle.signoff_defs.specs.OpenWalks.{IsOpenWalk}
 use Rattle.signoff_defs.specs.UnitsOf.{IsUnitOf, HoldsBits}
 use Rattle.signoff_defs.specs.Visibility.{in_walk}

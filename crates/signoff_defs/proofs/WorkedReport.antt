@@ -46,7 +46,7 @@ use Rattle.signoff_defs.specs.ChainCrossings.{IsCrossingOf}
 use Rattle.signoff_defs.specs.Crossings.{Crossing}
 use Rattle.signoff_defs.specs.Findings.{NamedWatch, IsFindingOf, AreFindings}
 use Rattle.signoff_defs.specs.Elements.{AreSeenAt, IsElement, AreElements}
-use Rattle.signoff_defs.specs.Found.{AreFound}
+use Rattle.list_defs.specs.Found.{AreFound}
 use Rattle.signoff_defs.specs.ReportText.{report_text}
 use Rattle.signoff_defs.specs.RootOrders.{RootOrder, IsRootOrder}
 use Rattle.signoff_defs.specs.Needs.{isolation_need, shifting_need}

@@ -7,6 +7,7 @@ use Rattle.pw_defs.specs.declared.supplies.Supply.{Supply}
 use Rattle.pw_defs.specs.declared.values.Value.{Value}
 use Rattle.pw_defs.specs.declared.values.Value.TheVariants.{Off, On}
 use Rattle.list_defs.specs.Members.{IsIn}
+use Rattle.list_defs.specs.Rings.{IsReached}
 use Rattle.supply_defs.specs.Network.{IsRoot, IsFedBy, FeedersLead}
 use Rattle.supply_defs.specs.UnitLists.{AreValues, IsSeen, IsSeenRoot, OutersAreSmaller}
 use Rattle.supply_defs.specs.Values.{HasValue, IsMentioned, IsPortWithin, IsSwitchOutput, IsUnstated}
@@ -26,8 +27,8 @@ unfed (suc (suc zero)) b step = cc
 unfed (suc (suc (suc n))) b step = cc
 
 no_lead : (a b : ℕ) → FeedersLead pair_intent.supplies a b → ⊥
-no_lead _ _ (FeedersLead.at_once a b step) = unfed a b step
-no_lead _ _ (FeedersLead.further a b c step more) = unfed a b step
+no_lead _ _ (IsReached.one a b step) = unfed a b step
+no_lead _ _ (IsReached.more a b c step more) = unfed a b step
 
 -- each supply is its own root
 own_root : (stop : List ℕ) (a r : ℕ) → IsRoot pair_intent.supplies stop a r → a ≡ r

@@ -16,7 +16,7 @@ use Rattle.list_defs.specs.Orders.{name_cmp, IsPutInOrder}
 use Rattle.design_defs.specs.Joined.{path_of}
 use Rattle.design_defs.specs.Names.{joined}
 use Rattle.supply_defs.specs.UnitViews.{IsRootIn, kind_at}
-use Rattle.signoff_defs.specs.Found.{AreFound}
+use Rattle.list_defs.specs.Found.{AreFound}
 use Rattle.signoff_defs.specs.Visibility.{supply_name}
 
 -- the values of a supply as a unit sees them: those of its root there

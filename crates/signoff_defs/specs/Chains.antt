@@ -15,7 +15,7 @@ use Rattle.design_defs.specs.Walks.{AreWalks}
 use Rattle.domain_defs.specs.Sets.{end_set}
 use Rattle.supply_defs.specs.UnitViews.{HasRoots, view_ends}
 use Rattle.signoff_defs.specs.Elements.{AreElements}
-use Rattle.signoff_defs.specs.Found.{AreFound}
+use Rattle.list_defs.specs.Found.{AreFound}
 use Rattle.signoff_defs.specs.UnitsOf.{IsUnitOf}
 use Rattle.signoff_defs.specs.WalkParts.{walk_parts}
 

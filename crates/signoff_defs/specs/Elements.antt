@@ -15,7 +15,7 @@ use Rattle.domain_defs.specs.Faces.{HasFaces, DomainsAgree}
 use Rattle.domain_defs.specs.Precedence.{AreCandidates}
 use Rattle.domain_defs.specs.Sets.{cell_of, cell_set, shifter_input}
 use Rattle.supply_defs.specs.UnitViews.{HasRoots, view_ends}
-use Rattle.signoff_defs.specs.Found.{AreFound}
+use Rattle.list_defs.specs.Found.{AreFound}
 use Rattle.signoff_defs.specs.Seen.{HasRootsIfStated, IsSeenCandidate}
 use Rattle.signoff_defs.specs.WalkParts.{Part}
 

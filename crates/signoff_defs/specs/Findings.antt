@@ -9,8 +9,8 @@ use Rattle.pw_defs.specs.declared.chains.Sense.TheVariants.{WhenSome, WhenNone, 
 use Rattle.pw_defs.specs.declared.chains.Watch.{Watch}
 use Rattle.pw_defs.specs.declared.report.Finding.{Finding}
 use Rattle.list_defs.specs.Orders.{name_cmp}
-use Rattle.signoff_defs.specs.Found.{AreFound}
-use Rattle.signoff_defs.specs.Kinds.{kind_number}
+use Rattle.list_defs.specs.Found.{AreFound}
+use Rattle.pw_defs.specs.Kinds.{kind_number}
 use Rattle.signoff_defs.specs.Witnesses.{LegalStates, IsRaised, IsWitness}
 
 -- a watch with the names of the receiver and driver that it stands for

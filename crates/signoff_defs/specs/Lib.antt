@@ -1,9 +1,7 @@
 pub mod ReportText
-pub mod Found
 pub mod Crossings
 pub mod Needs
 pub mod Watches
-pub mod Kinds
 pub mod Witnesses
 pub mod Findings
 pub mod WalkParts

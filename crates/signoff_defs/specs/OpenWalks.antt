@@ -21,7 +21,7 @@ use Rattle.design_defs.specs.Ports.{is_output, receives}
 use Rattle.domain_defs.specs.Faces.{dir_of}
 use Rattle.signoff_defs.specs.Chains.{AreAllChains, HasEndSet, last_bit, name_of}
 use Rattle.signoff_defs.specs.Elements.{AreElements}
-use Rattle.signoff_defs.specs.Found.{AreFound}
+use Rattle.list_defs.specs.Found.{AreFound}
 use Rattle.signoff_defs.specs.WalkParts.{walk_parts}
 
 -- an output bit of an instance

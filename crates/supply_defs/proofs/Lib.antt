@@ -1,5 +1,4 @@
 pub mod Meaning
-pub mod OneList
 pub mod OnePlace
 pub mod Placing
 pub mod Roots

@@ -6,14 +6,14 @@ use Rattle.pw_defs.specs.declared.conditions.Cond.{Cond}
 use Rattle.pw_defs.specs.declared.supplies.Supply.{Supply}
 use Rattle.pw_defs.specs.declared.values.Value.{Value}
 use Rattle.supply_defs.specs.Conditions.{holds}
-use Rattle.supply_defs.specs.Network.{IsRoot, HasNoRing, HasFeedersInRange}
+use Rattle.supply_defs.specs.Network.{IsRoot, HasNoFeederRing, HasFeedersInRange}
 use Rattle.supply_defs.specs.Places.{ArePlaces, placed, value_at}
 use Rattle.supply_defs.specs.States.{meets}
 use Rattle.supply_defs.proofs.Placing.{holds_placed}
 use Rattle.supply_defs.proofs.Roots.{some_root}
 
 -- where no root stands twice in the order, supplies have one list of places
-pub one_list_of_places : (supplies : List Supply) (order xs ys : List ℕ) → HasNoRing supplies → HasFeedersInRange supplies
+pub one_list_of_places : (supplies : List Supply) (order xs ys : List ℕ) → HasNoFeederRing supplies → HasFeedersInRange supplies
     → ((i j root : ℕ) → slice_get order i ≡ Some root → slice_get order j ≡ Some root → i ≡ j) → ArePlaces supplies order xs
     → ArePlaces supplies order ys → xs ≡ ys
 one_list_of_places supplies order xs ys ringless within once h k = same_number_lists xs ys (h.count ∙ sym k.count) (λ n there.

@@ -6,7 +6,8 @@ use Rattle.std.proofs.lemmas.Map.Steps.{length-le_from_distinct_below}
 use Rattle.std.proofs.lemmas.Option.{slice_get_within, slice_get_cases}
 use Rattle.pw_defs.specs.declared.supplies.Supply.{Supply}
 use Rattle.list_defs.specs.Members.{IsIn}
-use Rattle.supply_defs.specs.Network.{feeder_at, IsFedBy, IsUnfed, FeedersLead, HasNoRing, HasFeedersInRange, IsRoot}
+use Rattle.list_defs.specs.Rings.{IsReached}
+use Rattle.supply_defs.specs.Network.{feeder_at, IsFedBy, IsUnfed, FeedersLead, HasNoFeederRing, HasFeedersInRange, IsRoot}
 
 same_supply_root : (supplies : List Supply) (stop : List ℕ) (a b r s : ℕ) → a ≡ b → IsRoot supplies stop a r → IsRoot supplies stop b s → r ≡ s
 same_supply_root supplies stop _ _ _ _ same (IsRoot.stopped a here) (IsRoot.stopped b there) = same
@@ -54,13 +55,13 @@ in_or_out n (x ∷ xs) = by (eqb n x) refl (in_or_out n xs)
 
 -- feeders that lead to a supply lead on to its feeder
 lead_on : (supplies : List Supply) (a b c : ℕ) → FeedersLead supplies a b → IsFedBy supplies b c → FeedersLead supplies a c
-lead_on supplies _ _ c (FeedersLead.at_once a b step) next = FeedersLead.further a b c step (FeedersLead.at_once b c next)
-lead_on supplies _ _ c (FeedersLead.further a b d step rest) next = FeedersLead.further a b c step (lead_on supplies b d c rest next)
+lead_on supplies _ _ c (IsReached.one a b step) next = IsReached.more a b c step (IsReached.one b c next)
+lead_on supplies _ _ c (IsReached.more a b d step rest) next = IsReached.more a b c step (lead_on supplies b d c rest next)
 
 -- a supply from which feeders lead is there
 leads_there : (supplies : List Supply) (a b : ℕ) → FeedersLead supplies a b → a < length supplies
-leads_there supplies _ _ (FeedersLead.at_once a b step) = fed_there supplies a (Some b) step
-leads_there supplies _ _ (FeedersLead.further a b c step rest) = fed_there supplies a (Some b) step
+leads_there supplies _ _ (IsReached.one a b step) = fed_there supplies a (Some b) step
+leads_there supplies _ _ (IsReached.more a b c step rest) = fed_there supplies a (Some b) step
 
 -- a number that isn't in a list differs from each of it
 off_list : (a : ℕ) (xs : List ℕ) → ¬ (list_any (eqb a) xs ≡ true) → AllByRecursion (λ x. eqb a x ≡ false) xs
@@ -77,18 +78,18 @@ record Passed (supplies : List Supply) (a : ℕ) (passed : List ℕ) : Type 0 wh
   distinct : IsDistinct eqb passed
   leads : (q : ℕ) → list_any (eqb q) passed ≡ true → FeedersLead supplies q a
 
-passed_on : (supplies : List Supply) → HasNoRing supplies → (a b : ℕ) (passed : List ℕ) → IsFedBy supplies a b → Passed supplies a passed
+passed_on : (supplies : List Supply) → HasNoFeederRing supplies → (a b : ℕ) (passed : List ℕ) → IsFedBy supplies a b → Passed supplies a passed
     → Passed supplies b (a ∷ passed)
 unfolding IsDistinct
 passed_on supplies ringless a b passed step p = record {
   distinct = (off_list a passed (λ there. ringless a (p.leads a there)), p.distinct);
   leads = λ q there. elim (or_cases (eqb q a) (list_any (eqb q) passed) there) [
-    | inl here ↦ (let F : ℕ → Type 0 = λ n. FeedersLead supplies n b in subst F (sym (eqb-true q a here)) (FeedersLead.at_once a b step))
+    | inl here ↦ (let F : ℕ → Type 0 = λ n. FeedersLead supplies n b in subst F (sym (eqb-true q a here)) (IsReached.one a b step))
     | inr later ↦ lead_on supplies q a b (p.leads q later) step
   ];
 }
 
-root_behind : (supplies : List Supply) → HasNoRing supplies → HasFeedersInRange supplies → (stop : List ℕ) (left a : ℕ) (passed : List ℕ)
+root_behind : (supplies : List Supply) → HasNoFeederRing supplies → HasFeedersInRange supplies → (stop : List ℕ) (left a : ℕ) (passed : List ℕ)
     → length passed + left ≡ length supplies → a < length supplies → Passed supplies a passed → (r : ℕ) × IsRoot supplies stop a r
 root_behind supplies ringless within stop zero a passed count there p =
     elim (fed_or_unfed supplies a there) [
@@ -112,7 +113,7 @@ root_behind supplies ringless within stop (suc left) a passed count there p =
     ]
 
 -- where feeders are supplies and make no ring, each supply has a root
-pub some_root : (supplies : List Supply) → HasNoRing supplies → HasFeedersInRange supplies → (stop : List ℕ) (a : ℕ) → a < length supplies
+pub some_root : (supplies : List Supply) → HasNoFeederRing supplies → HasFeedersInRange supplies → (stop : List ℕ) (a : ℕ) → a < length supplies
     → (r : ℕ) × IsRoot supplies stop a r
 unfolding IsDistinct
 some_root supplies ringless within stop a there =

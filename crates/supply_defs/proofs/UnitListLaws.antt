@@ -10,7 +10,7 @@ use Rattle.pw_defs.specs.declared.values.Value.{Value}
 use Rattle.list_defs.specs.Members.{IsIn}
 use Rattle.supply_defs.specs.UnitLists.{unit_and_root, unit_and_root_cmp, AreValues, AreUnitLists, IsAtOrInside, OutersAreSmaller, IsJobList, IsSeenRoot}
 use Rattle.supply_defs.specs.Values.{HasValue}
-use Rattle.supply_defs.proofs.OneList.{one_list}
+use Rattle.list_defs.proofs.OneList.{one_list}
 use Rattle.supply_defs.proofs.TotalOrders.{value_cmp_total}
 
 pub unit_and_root_cmp_total : IsTotalOrder unit_and_root_cmp

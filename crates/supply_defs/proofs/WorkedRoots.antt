@@ -2,7 +2,8 @@
 use Rattle.std.proofs.Common.{◌≡◌, ◌≢◌, ℕ, zero, suc, [], ◌∷◌, Option, Some, None, option_map, slice_get, inl, inr, ◌⊎◌, refl, arith}
 use Rattle.std.specs.Prelude.{codes}
 use Rattle.pw_defs.specs.declared.supplies.Supply.{Supply}
-use Rattle.supply_defs.specs.Network.{FeedersLead, HasNoRing, IsRoot}
+use Rattle.list_defs.specs.Rings.{IsReached}
+use Rattle.supply_defs.specs.Network.{FeedersLead, HasNoFeederRing, IsRoot}
 use Rattle.supply_defs.specs.UnitViews.{IsRootIn, AreSameSet, IsGroundRoot}
 use Rattle.supply_defs.proofs.Roots.{one_root}
 use Rattle.supply_defs.proofs.WorkedNetworks.{one_unit, two_units, switched, switch_ring, quiet, net_ring, with_macro}
@@ -19,8 +20,8 @@ pub switch_is_no_feeder : ¬ IsRootIn switched one_unit 0 0 1
 switch_is_no_feeder root = omega (arith, one_root switched [] 0 3 1 net_behind_switch root)
 
 -- two nets that feed one another make a ring
-pub nets_in_ring : ¬ HasNoRing net_ring
-nets_in_ring ringless = ringless 0 (FeedersLead.further 0 1 0 refl (FeedersLead.at_once 1 0 refl))
+pub nets_in_ring : ¬ HasNoFeederRing net_ring
+nets_in_ring ringless = ringless 0 (IsReached.more 0 1 0 refl (IsReached.one 1 0 refl))
 
 -- and have no root
 no_root : (a r : ℕ) → IsRoot net_ring [] a r → (a ≡ 0) ⊎ (a ≡ 1) → ⊥
@@ -37,20 +38,20 @@ nets_in_ring_without_root r root = no_root 0 r root (inl refl)
 
 -- two switches that feed one another make no ring of feeders
 switch_steps : (a b : ℕ) → FeedersLead switch_ring a b → ((a ≡ 0) × (b ≡ 3)) ⊎ ((a ≡ 2) × (b ≡ 1))
-switch_steps _ _ (FeedersLead.at_once zero b step) = inl (refl, cc)
-switch_steps _ _ (FeedersLead.at_once (suc zero) b step) = cc
-switch_steps _ _ (FeedersLead.at_once (suc (suc zero)) b step) = inr (refl, cc)
-switch_steps _ _ (FeedersLead.at_once (suc (suc (suc zero))) b step) = cc
-switch_steps _ _ (FeedersLead.at_once (suc (suc (suc (suc a)))) b step) = cc
-switch_steps _ _ (FeedersLead.further zero b c step rest) =
+switch_steps _ _ (IsReached.one zero b step) = inl (refl, cc)
+switch_steps _ _ (IsReached.one (suc zero) b step) = cc
+switch_steps _ _ (IsReached.one (suc (suc zero)) b step) = inr (refl, cc)
+switch_steps _ _ (IsReached.one (suc (suc (suc zero))) b step) = cc
+switch_steps _ _ (IsReached.one (suc (suc (suc (suc a)))) b step) = cc
+switch_steps _ _ (IsReached.more zero b c step rest) =
     let next : b ≡ 3 = cc in elim (switch_steps b c rest) [ inl h ↦ (let e = h.0 in cc) | inr h ↦ (let e = h.0 in cc) ]
-switch_steps _ _ (FeedersLead.further (suc zero) b c step rest) = cc
-switch_steps _ _ (FeedersLead.further (suc (suc zero)) b c step rest) =
+switch_steps _ _ (IsReached.more (suc zero) b c step rest) = cc
+switch_steps _ _ (IsReached.more (suc (suc zero)) b c step rest) =
     let next : b ≡ 1 = cc in elim (switch_steps b c rest) [ inl h ↦ (let e = h.0 in cc) | inr h ↦ (let e = h.0 in cc) ]
-switch_steps _ _ (FeedersLead.further (suc (suc (suc zero))) b c step rest) = cc
-switch_steps _ _ (FeedersLead.further (suc (suc (suc (suc a)))) b c step rest) = cc
+switch_steps _ _ (IsReached.more (suc (suc (suc zero))) b c step rest) = cc
+switch_steps _ _ (IsReached.more (suc (suc (suc (suc a)))) b c step rest) = cc
 
-pub switches_make_no_ring : HasNoRing switch_ring
+pub switches_make_no_ring : HasNoFeederRing switch_ring
 switches_make_no_ring a lead = elim (switch_steps a a lead) [ inl h ↦ (let e = h.0 in let f = h.1 in cc) | inr h ↦ (let e = h.0 in let f = h.1 in cc) ]
 
 -- from inside a soft macro its `in` port is a root, also for its `out` port that this one feeds

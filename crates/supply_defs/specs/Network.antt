@@ -2,6 +2,7 @@
 use Rattle.std.specs.Prelude.{◌≡◌, ℕ, ◌<◌, List, Option, Some, None, option_map, length, slice_get}
 use Rattle.pw_defs.specs.declared.supplies.Supply.{Supply}
 use Rattle.list_defs.specs.Members.{IsIn}
+use Rattle.list_defs.specs.Rings.{IsReached, HasNoRing}
 
 -- what feeds a supply
 abbrev pub feeder_at : List Supply → ℕ → Option (Option ℕ)
@@ -16,13 +17,12 @@ abbrev pub IsUnfed : List Supply → ℕ → Type 0
 IsUnfed supplies a = feeder_at supplies a ≡ Some None
 
 -- the feeders of supply a, one after the other, come to supply b
-pub data FeedersLead (supplies : List Supply) : ℕ → ℕ → Type 0 where
-  at_once : (a b : ℕ) → IsFedBy supplies a b → FeedersLead supplies a b
-  further : (a b c : ℕ) → IsFedBy supplies a b → FeedersLead supplies b c → FeedersLead supplies a c
+abbrev pub FeedersLead : List Supply → ℕ → ℕ → Type 0
+FeedersLead supplies = IsReached (IsFedBy supplies)
 
 -- no list of feeders comes back to a supply
-abbrev pub HasNoRing : List Supply → Type 0
-HasNoRing supplies = (a : ℕ) → ¬ FeedersLead supplies a a
+abbrev pub HasNoFeederRing : List Supply → Type 0
+HasNoFeederRing supplies = HasNoRing (IsFedBy supplies)
 
 -- each feeder is one of the supplies
 abbrev pub HasFeedersInRange : List Supply → Type 0

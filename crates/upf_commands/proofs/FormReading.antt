@@ -11,19 +11,12 @@ use Rattle.list_defs.specs.Members.{same_name}
 use Rattle.pw_defs.specs.declared.faults.TclFault.{TclFault}
 use Rattle.pw_defs.specs.declared.values.Value.{Value}
 use Rattle.pw_defs.specs.declared.values.Value.TheVariants.{Off, On}
+use Rattle.tcl_words.proofs.VariableNames.{and_first, and_second}
 use Rattle.tcl_words.proofs.ListLaws.{parting, parts_so}
 use Rattle.text_defs.specs.Volts.{IsVolts, digits_of, decimals_of}
 use Rattle.upf_commands.specs.Forms.{WordForm, any, simple, set_name, handle, file, one_of, volts, ListForm, names, scope, columns, keyed, pair, switch_port, on_state, supply_state, Form, word, list, pairs, IsWordOf, AreListOf, HasForm, is_column}
 use Rattle.upf_commands.specs.Values.{is_simple}
 use Rattle.upf_commands.specs.Voltages.{one, IsValue, off, on}
-
-both_first : (a b : Bool) → (a && b) ≡ true → a ≡ true
-both_first true b h = refl
-both_first false b h = h
-
-both_second : (a b : Bool) → (a && b) ≡ true → b ≡ true
-both_second true b h = h
-both_second false b h = absurd (false≢true h)
 
 all_digits : List ℕ → Bool
 all_digits = list_all (λ c. ltb (digit_value c) 10)
@@ -31,8 +24,8 @@ all_digits = list_all (λ c. ltb (digit_value c) 10)
 digits_so : (ds : List ℕ) → list_all (λ c. ltb (digit_value c) 10) ds ≡ true → AllDigits 10 ds
 digits_so [] h = tt
 digits_so (c ∷ cs) h = (
-  ltb-true (digit_value c) 10 (both_first (ltb (digit_value c) 10) (list_all (λ d. ltb (digit_value d) 10) cs) h),
-  digits_so cs (both_second (ltb (digit_value c) 10) (list_all (λ d. ltb (digit_value d) 10) cs) h),
+  ltb-true (digit_value c) 10 (and_first (ltb (digit_value c) 10) (list_all (λ d. ltb (digit_value d) 10) cs) h),
+  digits_so cs (and_second (ltb (digit_value c) 10) (list_all (λ d. ltb (digit_value d) 10) cs) h),
 )
 
 -- the microvolts that a text writes, if it is a voltage
@@ -46,16 +39,16 @@ is_volts text =
 
 volts_so : (text : List ℕ) → is_volts text ≡ true → IsVolts text (value_in text)
 volts_so text h =
-    let first = both_first (ltb 0 (length (digits_of text)) && list_all (λ c. ltb (digit_value c) 10) (digits_of text)) _ h in
-    let second = both_second (ltb 0 (length (digits_of text)) && list_all (λ c. ltb (digit_value c) 10) (digits_of text)) _ h in
+    let first = and_first (ltb 0 (length (digits_of text)) && list_all (λ c. ltb (digit_value c) 10) (digits_of text)) _ h in
+    let second = and_second (ltb 0 (length (digits_of text)) && list_all (λ c. ltb (digit_value c) 10) (digits_of text)) _ h in
     record {
       digits = (
-        ltb-true 0 (length (digits_of text)) (both_first (ltb 0 (length (digits_of text))) _ first),
-        digits_so (digits_of text) (both_second (ltb 0 (length (digits_of text))) _ first),
+        ltb-true 0 (length (digits_of text)) (and_first (ltb 0 (length (digits_of text))) _ first),
+        digits_so (digits_of text) (and_second (ltb 0 (length (digits_of text))) _ first),
       );
-      decimals = leb-true (length (decimals_of text)) 6 (both_first (leb (length (decimals_of text)) 6) _ second);
+      decimals = leb-true (length (decimals_of text)) 6 (and_first (leb (length (decimals_of text)) 6) _ second);
       value = refl;
-      limit = leb-true (value_in text) 1000000000 (both_second (leb (length (decimals_of text)) 6) _ second);
+      limit = leb-true (value_in text) 1000000000 (and_second (leb (length (decimals_of text)) 6) _ second);
     }
 
 same_so : (x y : List ℕ) → bytes_eq x y ≡ true → x ≡ y
@@ -77,7 +70,7 @@ word_so simple text h = h
 word_so set_name text h = inl h
 word_so handle text h = absurd (false≢true h)
 word_so file text h =
-    (text, (both_first (all_scalars text) (bytes_eq (encode_utf8_all text) text) h, same_so (encode_utf8_all text) text (both_second (all_scalars text) (bytes_eq (encode_utf8_all text) text) h)))
+    (text, (and_first (all_scalars text) (bytes_eq (encode_utf8_all text) text) h, same_so (encode_utf8_all text) text (and_second (all_scalars text) (bytes_eq (encode_utf8_all text) text) h)))
 word_so (one_of words) text h = IsIn-list_any text words h
 word_so volts text h = (value_in text, volts_so text h)
 
@@ -115,10 +108,10 @@ list_so (keyed keys) (key ∷ text ∷ []) h = (key, text, refl, IsIn-list_any k
 list_so pair (first ∷ second ∷ []) h = (first, second, refl)
 list_so switch_port (port ∷ net ∷ []) h = (port, net, refl, h)
 list_so on_state (state ∷ port ∷ condition ∷ []) h =
-    (state, port, condition, refl, both_first (is_simple state) (is_simple port) h, both_second (is_simple state) (is_simple port) h)
+    (state, port, condition, refl, and_first (is_simple state) (is_simple port) h, and_second (is_simple state) (is_simple port) h)
 list_so supply_state (state ∷ voltage) h =
-    let found = value_so voltage (both_second (is_simple state) (is_value voltage) h) in
-    (state, voltage, found.0, refl, both_first (is_simple state) (is_value voltage) h, found.1)
+    let found = value_so voltage (and_second (is_simple state) (is_value voltage) h) in
+    (state, voltage, found.0, refl, and_first (is_simple state) (is_value voltage) h, found.1)
 list_so _ _ h = absurd (false≢true h)
 
 abbrev is_parted : ListForm → Result (List (List ℕ)) TclFault → Bool

@@ -1,5 +1,5 @@
 -- A value that has its form says what that form says.
-use Rattle.std.proofs.Common.{◌≡◌, ℕ, List, [], ◌∷◌, subst}
+use Rattle.std.proofs.Common.{ℕ, List, subst}
 use Rattle.list_defs.specs.Members.{IsIn}
 use Rattle.pw_defs.specs.declared.values.Value.{Value}
 use Rattle.tcl_words.specs.ListWords.{PartsInto}

@@ -7,6 +7,7 @@ use Rattle.list_defs.specs.Members.{IsIn}
 use Rattle.pw_defs.specs.declared.faults.TclFault.{TclFault}
 use Rattle.pw_defs.specs.declared.script.Command.{Command}
 use Rattle.pw_defs.specs.declared.script.Line.{Line}
+use Rattle.tcl_words.proofs.VariableNames.{and_first, and_second}
 use Rattle.tcl_words.proofs.ListLaws.{parting, only_parts}
 use Rattle.upf_commands.specs.CommandRows.{OptionRow, CommandRow}
 use Rattle.upf_commands.specs.CommandWords.{Item, own, given, unknown, lacking, row_of}
@@ -15,14 +16,6 @@ use Rattle.upf_commands.specs.Forms.{WordForm}
 use Rattle.upf_commands.specs.CommandTable.{commands}
 use Rattle.upf_commands.proofs.CommandReading.{items_of, AreGood, reads_command}
 use Rattle.upf_commands.proofs.FormReading.{is_form, form_so, is_word_of, word_so}
-
-both_first : (a b : Bool) → (a && b) ≡ true → a ≡ true
-both_first true b h = refl
-both_first false b h = h
-
-both_second : (a b : Bool) → (a && b) ≡ true → b ≡ true
-both_second true b h = h
-both_second false b h = absurd (false≢true h)
 
 not_so : (t : Bool) → not t ≡ true → t ≡ false
 not_so true h = absurd (false≢true h)
@@ -82,16 +75,16 @@ is_good row before (unknown text) = false
 is_good row before (lacking o) = false
 
 good_so : (row : CommandRow) (before : List Item) (item : Item) → is_good row before item ≡ true → IsGood row before item
-good_so row before (own text) h = by row.own refl (both_second (may_own row before) (own_fits row.own text) h)
+good_so row before (own text) h = by row.own refl (and_second (may_own row before) (own_fits row.own text) h)
   where
     by : (form : Option WordForm) → row.own ≡ form → own_fits form text ≡ true → IsGood row before (own text)
     by None e fits = absurd (false≢true fits)
-    by (Some form) e fits = good_own text form (both_first (may_own row before) (own_fits row.own text) h) e (word_so form text fits)
+    by (Some form) e fits = good_own text form (and_first (may_own row before) (own_fits row.own text) h) e (word_so form text fits)
 good_so row before (given o text) h =
-    let may = both_first (may_give row before o && not (list_any (gives_key o text) before)) (is_form o.form text) h in
-    good_option o text (both_first (may_give row before o) (not (list_any (gives_key o text) before)) may)
-    (not_repeated o text before (not_so _ (both_second (may_give row before o) (not (list_any (gives_key o text) before)) may)))
-    (form_so o.form text (both_second (may_give row before o && not (list_any (gives_key o text) before)) (is_form o.form text) h))
+    let may = and_first (may_give row before o && not (list_any (gives_key o text) before)) (is_form o.form text) h in
+    good_option o text (and_first (may_give row before o) (not (list_any (gives_key o text) before)) may)
+    (not_repeated o text before (not_so _ (and_second (may_give row before o) (not (list_any (gives_key o text) before)) may)))
+    (form_so o.form text (and_second (may_give row before o && not (list_any (gives_key o text) before)) (is_form o.form text) h))
 good_so row before (unknown text) h = absurd (false≢true h)
 good_so row before (lacking o) h = absurd (false≢true h)
 
@@ -102,8 +95,8 @@ are_good row before (item ∷ items) = is_good row before item && are_good row (
 all_good : (row : CommandRow) (before items : List Item) → are_good row before items ≡ true → AreGood row before items
 all_good row before [] h = tt
 all_good row before (item ∷ items) h = (
-  good_so row before item (both_first (is_good row before item) (are_good row (before ++ item ∷ []) items) h),
-  all_good row (before ++ item ∷ []) items (both_second (is_good row before item) (are_good row (before ++ item ∷ []) items) h),
+  good_so row before item (and_first (is_good row before item) (are_good row (before ++ item ∷ []) items) h),
+  all_good row (before ++ item ∷ []) items (and_second (is_good row before item) (are_good row (before ++ item ∷ []) items) h),
 )
 
 abbrev has_none : List (List ℕ) → Bool
@@ -158,15 +151,15 @@ command_so line c e = by line.words refl e
         well : (t : Bool) → are_well row (items_of row words) ≡ t → cond t (Some (command_of line row (items_of row words))) None ≡ Some c → IsCommand line c
         well true h e =
             let names =
-            both_first (has_none (unknown_words (items_of row words)) && has_none (missing row (items_of row words))) (are_good row [] (items_of row words)) h in
+            and_first (has_none (unknown_words (items_of row words)) && has_none (missing row (items_of row words))) (are_good row [] (items_of row words)) h in
             let good =
-            both_second (has_none (unknown_words (items_of row words)) && has_none (missing row (items_of row words))) (are_good row [] (items_of row words)) h in
+            and_second (has_none (unknown_words (items_of row words)) && has_none (missing row (items_of row words))) (are_good row [] (items_of row words)) h in
             let same : command_of line row (items_of row words) ≡ c = cc in
             subst (IsCommand line) same
             (
             reads_command line row words split is runs
-            (none_so (unknown_words (items_of row words)) (both_first (has_none (unknown_words (items_of row words))) (has_none (missing row (items_of row words))) names))
-            (none_so (missing row (items_of row words)) (both_second (has_none (unknown_words (items_of row words))) (has_none (missing row (items_of row words))) names))
+            (none_so (unknown_words (items_of row words)) (and_first (has_none (unknown_words (items_of row words))) (has_none (missing row (items_of row words))) names))
+            (none_so (missing row (items_of row words)) (and_second (has_none (unknown_words (items_of row words))) (has_none (missing row (items_of row words))) names))
             (all_good row [] (items_of row words) good)
             )
         well false h e = cc

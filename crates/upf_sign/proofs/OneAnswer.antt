@@ -17,7 +17,7 @@ use Rattle.pw_defs.specs.declared.strategies.Strategy.{Strategy}
 use Rattle.pw_defs.specs.declared.supplies.Supply.{Supply}
 use Rattle.list_defs.specs.Orders.{name_cmp}
 use Rattle.signoff_defs.specs.ReportText.{report_text}
-use Rattle.signoff_defs.proofs.InOrder.{put_once}
+use Rattle.list_defs.proofs.InOrder.{put_once}
 use Rattle.line_forms.specs.declared.library_lines.Library.{Library}
 use Rattle.line_forms.specs.declared.netlist_lines.ModuleLines.{ModuleLines}
 use Rattle.line_forms.specs.declared.script_lines.CommandLine.{CommandLine}

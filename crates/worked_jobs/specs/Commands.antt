@@ -1,5 +1,5 @@
 -- The scripts as commands with their options.
-use Rattle.std.specs.Prelude.{ℕ, List, [], ◌∷◌, true, false, codes}
+use Rattle.std.specs.Prelude.{List, [], ◌∷◌, false, codes}
 use Rattle.pw_defs.specs.declared.script.Command.{Command}
 
 -- the commands of the intent of the two blocks

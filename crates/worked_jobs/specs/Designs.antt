@@ -1,11 +1,9 @@
 -- The designs of the netlists: instances by path, bits by path, net and place, and what feeds each bit.
-use Rattle.std.specs.Prelude.{ℕ, List, [], ◌∷◌, Option, Some, None, codes}
+use Rattle.std.specs.Prelude.{[], ◌∷◌, Some, None, codes}
 use Rattle.pw_defs.specs.declared.cells.Dir.TheVariants.{Input, Output}
 use Rattle.pw_defs.specs.declared.design.Body.TheVariants.{Module as ModuleBody, Cell as CellBody}
-use Rattle.pw_defs.specs.declared.design.Feeder.TheVariants.{Bit as BitFeeder, Through, Driver, Constant, Nothing}
+use Rattle.pw_defs.specs.declared.design.Feeder.TheVariants.{Bit as BitFeeder, Through, Driver, Constant}
 use Rattle.pw_defs.specs.declared.design.Design.{Design}
-use Rattle.pw_defs.specs.declared.design.Instance.{Instance}
-use Rattle.pw_defs.specs.declared.design.Bit.{Bit}
 use Rattle.pw_defs.specs.declared.netlist.Module.{Module}
 use Rattle.worked_jobs.specs.Libraries.{library}
 

@@ -1,11 +1,11 @@
 -- The intents of the scripts over their designs.
-use Rattle.std.specs.Prelude.{ℕ, List, [], ◌∷◌, Option, Some, None, true, false, codes}
+use Rattle.std.specs.Prelude.{ℕ, [], ◌∷◌, Option, Some, None, true, false, codes}
 use Rattle.pw_defs.specs.declared.values.Value.TheVariants.{Off, On}
-use Rattle.pw_defs.specs.declared.conditions.Cond.TheVariants.{Is, All, Any}
+use Rattle.pw_defs.specs.declared.conditions.Cond.TheVariants.{Is, Any}
 use Rattle.pw_defs.specs.declared.intent.Want.TheVariants.{Check}
 use Rattle.pw_defs.specs.declared.intent.Intent.{Intent}
 use Rattle.pw_defs.specs.declared.intent.SupplySet.{SupplySet}
-use Rattle.pw_defs.specs.declared.supplies.SupplyKind.TheVariants.{InPort, OutPort, Net, SwitchIn, SwitchOut}
+use Rattle.pw_defs.specs.declared.supplies.SupplyKind.TheVariants.{Net}
 use Rattle.pw_defs.specs.declared.strategies.Mode.TheVariants.{Plain, Force, No}
 use Rattle.pw_defs.specs.declared.strategies.Act.TheVariants.{Iso}
 use Rattle.pw_defs.specs.declared.design.Named.TheVariants.{Port, PortBit as BitNamed}

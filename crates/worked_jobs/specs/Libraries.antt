@@ -1,5 +1,5 @@
 -- The cells of the library.
-use Rattle.std.specs.Prelude.{ℕ, List, [], ◌∷◌, Option, Some, None, true, false, codes}
+use Rattle.std.specs.Prelude.{[], ◌∷◌, Some, None, true, false, codes}
 use Rattle.pw_defs.specs.declared.cells.Dir.TheVariants.{Input, Output}
 use Rattle.pw_defs.specs.declared.cells.Cell.{Cell}
 use Rattle.pw_defs.specs.declared.cells.Cells.{Cells}

@@ -1,5 +1,5 @@
 -- The scripts as lines of words.
-use Rattle.std.specs.Prelude.{ℕ, List, [], ◌∷◌, codes}
+use Rattle.std.specs.Prelude.{List, [], ◌∷◌, codes}
 use Rattle.pw_defs.specs.declared.script.Line.{Line}
 
 -- the lines of the intent of the two blocks

@@ -1,7 +1,7 @@
 -- The modules of the netlists.
-use Rattle.std.specs.Prelude.{ℕ, List, [], ◌∷◌, Option, Some, None, codes}
+use Rattle.std.specs.Prelude.{List, [], ◌∷◌, Some, None, codes}
 use Rattle.pw_defs.specs.declared.cells.Dir.TheVariants.{Input, Output}
-use Rattle.pw_defs.specs.declared.netlist.Expr.TheVariants.{Whole, Bit, Part, Const, Join}
+use Rattle.pw_defs.specs.declared.netlist.Expr.TheVariants.{Whole, Bit, Const, Join}
 use Rattle.pw_defs.specs.declared.netlist.Module.{Module}
 
 -- the driving block

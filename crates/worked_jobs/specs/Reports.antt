@@ -1,5 +1,5 @@
 -- The reports on the jobs.
-use Rattle.std.specs.Prelude.{ℕ, List, [], ◌∷◌, Option, Some, None, true, false, codes}
+use Rattle.std.specs.Prelude.{[], ◌∷◌, Some, None, true, false, codes}
 use Rattle.pw_defs.specs.declared.values.Value.TheVariants.{Off, On}
 use Rattle.pw_defs.specs.declared.chains.Kind.TheVariants.{IsoMissing}
 use Rattle.pw_defs.specs.declared.report.Report.{Report}

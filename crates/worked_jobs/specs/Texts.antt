@@ -1,5 +1,5 @@
 -- The texts of the files of small jobs, and of the reports on them.
-use Rattle.std.specs.Prelude.{ℕ, List, codes, ◌++◌, []}
+use Rattle.std.specs.Prelude.{ℕ, List, codes, ◌++◌}
 
 -- the library of all jobs
 abbrev pub cells_text : List ℕ

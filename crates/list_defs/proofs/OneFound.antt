@@ -1,6 +1,7 @@
--- What is found along a list is one list, where each thing has at most one or none.
+-- What is found along a list, or beside each of it, is one list, where each thing has at most one or none.
 use Rattle.std.proofs.Common.{◌≡◌, ◌⊎◌, List, [], ◌∷◌, sym, ◌∙◌, refl, inl, inr}
-use Rattle.signoff_defs.specs.Found.{AreFound, end, found, passed}
+use Rattle.std.specs.List.{AllZip}
+use Rattle.list_defs.specs.Found.{AreFound, end, found, passed}
 
 -- what is found, opened at the first thing
 abbrev Opened : {X Y : Type 0} → (X → Y → Type 0) → (X → Type 0) → List X → List Y → Type 0
@@ -30,3 +31,16 @@ found_once {X} {Y} Has HasNone one not_both (x ∷ xs) ys zs a b = by (opened Ha
     by (inl p) (inr q) rest = absurd (not_both x p.0 p.2 q.0)
     by (inr p) (inl q) rest = absurd (not_both x q.0 q.2 p.0)
     by (inr p) (inr q) rest = rest ys zs p.1 q.1
+
+-- a list is determined where each of its items is
+pub zip_once : {A B : Type 0} (R : A → B → Type 0) → ((a : A) (x y : B) → R a x → R a y → x ≡ y) → (keys : List A) (xs ys : List B) → AllZip R keys xs
+    → AllZip R keys ys → xs ≡ ys
+zip_once R one [] [] [] p q = refl
+zip_once R one [] [] (y ∷ ys) p q = absurd q
+zip_once R one [] (x ∷ xs) ys p q = absurd p
+zip_once R one (a ∷ keys) [] ys p q = absurd p
+zip_once R one (a ∷ keys) (x ∷ xs) [] p q = absurd q
+zip_once R one (a ∷ keys) (x ∷ xs) (y ∷ ys) p q =
+    let first : x ≡ y = one a x y p.0 q.0 in
+    let rest : xs ≡ ys = zip_once R one keys xs ys p.1 q.1 in
+    cc

@@ -4,8 +4,7 @@ use Rattle.std.specs.List.{AllByRecursion, IsDistinct, list_any, slice_get}
 use Rattle.std.proofs.lemmas.Bool.{eqb-true, or_cases}
 use Rattle.std.proofs.lemmas.Map.Steps.{length-le_from_distinct_below}
 use Rattle.std.proofs.lemmas.Option.{slice_get_within}
-use Rattle.list_defs.specs.Members.{IsIn}
-use Rattle.design_defs.specs.DesignFaults.{HasMoreThan}
+use Rattle.list_defs.specs.Members.{IsIn, HasMoreThan}
 
 -- the place of what is in a list
 pub place_of_member : {X : Type 0} (x : X) (xs : List X) → IsIn x xs → (n : ℕ) × (slice_get xs n ≡ Some x)

@@ -24,10 +24,11 @@ cases: $(PROGRAM) $(PROBE)
 	python3 tests/calls.py $(PROBE)
 	python3 tests/run.py $(PROGRAM)
 
-bench: $(PROGRAM) $(DIAGRAMS)
+bench: $(PROGRAM) $(DIAGRAMS) $(PROBE)
 	python3 bench/first_form.py $(PROGRAM) --big
 	python3 bench/diagrams.py $(DIAGRAMS)
 	python3 bench/designs.py $(DIAGRAMS)
+	python3 bench/colliding.py $(PROBE)
 
 # Proves the program and all crates below it, and builds it.
 $(PROGRAM): $(SOURCES)

@@ -2,3 +2,4 @@ pub mod Owners
 pub mod Paths
 pub mod RowLemmas
 pub mod GrowthLemmas
+pub mod WorkedRows

@@ -1,5 +1,5 @@
 //! Everything that can be read of a design in rows, counted.
-ghost use Rattle.std.specs.Prelude.{◌<◌, length};
+ghost use Rattle.std.specs.Prelude.{◌≡◌, ◌<◌, length, IfOk};
 ghost use Rattle.design_rows.specs.Sound.{AreRows};
 
 use design_rows::{Rows, reads};
@@ -24,28 +24,73 @@ pub struct Counts {
 /// Reads the owner, the next bit and the name of each bit, and the path of each instance.
 pub fn read_all(alloc: Global, rows: &Rows) -> Result<Counts, AllocError>
     requires { AreRows rows.now }
+    ensures insts { IfOk result (λ counts. counts.insts ≡ length rows.now.insts) }
+    ensures bits { IfOk result (λ counts. counts.bits ≡ length rows.now.feeds.items) }
 {
-    let mut counts = Counts {
+    let paths = path_bytes(alloc, rows)?;
+    let names = name_bytes(alloc, rows)?;
+    Ok(Counts {
         insts: rows.insts.len(),
-        bits: 0,
-        on: 0,
-        owners: 0,
-        paths: 0,
-        names: 0,
-    };
-    for n in 0..rows.insts.len() {
-        counts.paths = counts.paths.saturating_add(path_len(alloc, rows, n)?);
-    }
-    for n in 0..rows.feeds.len() {
-        let n = n as u32;
-        counts.bits = n.saturating_add(1);
+        bits: bit_count(rows),
+        on: bits_fed(rows),
+        owners: owner_sum(rows),
+        paths,
+        names,
+    })
+}
+
+/// How many bits there are.
+pub fn bit_count(rows: &Rows) -> u32
+    requires { AreRows rows.now }
+    ensures { result ≡ length rows.now.feeds.items }
+{
+    rows.feeds.len() as u32
+}
+
+/// At how many bits a walk goes on.
+fn bits_fed(rows: &Rows) -> u64
+    requires { AreRows rows.now }
+{
+    let mut count = 0_u64;
+    for n in 0..bit_count(rows) {
         if reads::next(rows, n).is_some() {
-            counts.on = counts.on.saturating_add(1);
+            count = count.saturating_add(1);
         }
-        counts.owners = counts.owners.saturating_add(reads::owner(rows, n) as u64);
-        counts.names = counts.names.saturating_add(name_len(alloc, rows, n)?);
     }
-    Ok(counts)
+    count
+}
+
+/// The sum of the numbers of the owners of all bits.
+fn owner_sum(rows: &Rows) -> u64
+    requires { AreRows rows.now }
+{
+    let mut sum = 0_u64;
+    for n in 0..bit_count(rows) {
+        sum = sum.saturating_add(reads::owner(rows, n) as u64);
+    }
+    sum
+}
+
+/// How many bytes all paths have.
+fn path_bytes(alloc: Global, rows: &Rows) -> Result<u64, AllocError>
+    requires { AreRows rows.now }
+{
+    let mut bytes = 0_u64;
+    for n in 0..rows.insts.len() {
+        bytes = bytes.saturating_add(path_len(alloc, rows, n)?);
+    }
+    Ok(bytes)
+}
+
+/// How many bytes the names of all bits have.
+fn name_bytes(alloc: Global, rows: &Rows) -> Result<u64, AllocError>
+    requires { AreRows rows.now }
+{
+    let mut bytes = 0_u64;
+    for n in 0..bit_count(rows) {
+        bytes = bytes.saturating_add(name_len(alloc, rows, n)?);
+    }
+    Ok(bytes)
 }
 
 fn path_len(alloc: Global, rows: &Rows, n: u32) -> Result<u64, AllocError>

@@ -1,7 +1,8 @@
 //! Large designs: a flat one, and one of many instances of a block whose names are long.
-ghost use Rattle.std.specs.Prelude.{◌≡◌, ◌≤◌, length, IfOk};
+ghost use Rattle.std.specs.Prelude.{◌≤◌, IfOk};
 ghost use Rattle.design_rows.specs.Sound.{AreRows};
 
+use crate::counts::bit_count;
 use design_rows::{Feed, PlaceRow, Rows};
 use pw_defs::{Body, Cells, List};
 use std::alloc::{AllocError, Global};
@@ -52,6 +53,7 @@ pub fn nested(alloc: Global, blocks: u32, cells: u32) -> Result<Rows, AllocError
     Ok(rows)
 }
 
+/// Rows without a name, a kind or an instance.
 fn empty(alloc: Global) -> Rows
     ensures { AreRows result }
 {
@@ -72,6 +74,7 @@ fn spelled(alloc: Global, number: u32, front: u32) -> Result<Vec<u8>, AllocError
     Ok(name)
 }
 
+/// So many names, each with so many bytes in front of its number.
 fn add_names(alloc: Global, rows: &mut Rows, count: u32, front: u32) -> Result<(), AllocError>
     requires { AreRows rows.old }
     ensures { AreRows rows.new }
@@ -83,6 +86,7 @@ fn add_names(alloc: Global, rows: &mut Rows, count: u32, front: u32) -> Result<(
     Ok(())
 }
 
+/// So many nets with such names.
 fn add_nets(alloc: Global, rows: &mut Rows, count: u32, front: u32) -> Result<(), AllocError>
     requires { AreRows rows.old }
     ensures { AreRows rows.new }
@@ -119,6 +123,7 @@ fn add_cell_kind(rows: &mut Rows) -> Result<u32, AllocError>
     add_kind(rows, Body::Cell(0), first)
 }
 
+/// A pin of one bit.
 fn add_pin(rows: &mut Rows, name: &[u8], port: u32) -> Result<(), AllocError>
     requires { AreRows rows.old }
     ensures { AreRows rows.new }
@@ -131,6 +136,7 @@ fn add_pin(rows: &mut Rows, name: &[u8], port: u32) -> Result<(), AllocError>
     })
 }
 
+/// An instance, where what it is inside, its name and its kind are there.
 fn add_instance(rows: &mut Rows, parent: u32, name: u32, kind: u32) -> Result<(), AllocError>
     requires { AreRows rows.old }
     ensures { AreRows rows.new }
@@ -165,18 +171,12 @@ fn feed_all(rows: &mut Rows)
     requires { AreRows rows.old }
     ensures { AreRows rows.new }
 {
-    for n in 0..count_bits(rows) {
+    for n in 0..bit_count(rows) {
         rows.set_feed(n, some_feed(n));
     }
 }
 
-fn count_bits(rows: &Rows) -> u32
-    requires { AreRows rows.now }
-    ensures { result ≡ length rows.now.feeds.items }
-{
-    rows.feeds.len() as u32
-}
-
+/// A driver at each third bit, and else an earlier bit.
 fn some_feed(n: u32) -> Feed {
     if n % 3 == 0 {
         return Feed::Driver;

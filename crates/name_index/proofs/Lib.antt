@@ -1,3 +1,4 @@
 pub mod Links
 pub mod Trees
 pub mod Found
+pub mod WorkedTables

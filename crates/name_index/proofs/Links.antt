@@ -2,7 +2,8 @@
 use Rattle.std.proofs.Common.{◌≡◌, ◌≢◌, ◌⊎◌, ℕ, zero, suc, ◌+◌, ◌-◌, ◌%◌, ◌<◌, ◌≤◌, List, [], ◌∷◌, ◌++◌, length, get_or, set, Some, slice_get, inl, inr, refl, sym, ap, ◌∙◌, subst, arith}
 use Rattle.std.proofs.lemmas.Bool.{cases_eq}
 use Rattle.std.proofs.lemmas.List.{get_or-set_same, get_or-set_other, get_or_append_left, get_or_at, get_or_past, length_push, length-set}
-use Rattle.name_index.specs.Tables.{Leads}
+use Rattle.name_index.specs.declared.table.Table.{Table}
+use Rattle.name_index.specs.Tables.{Finds, IsLinked, IsSmooth, Leads, hash_of, number_in}
 
 -- no link leads on from no head
 pub leads_nowhere : (links : List ℕ) (head n : ℕ) → head ≡ 0 → Leads links head n → ⊥
@@ -67,32 +68,56 @@ links_fall links x fall few m = by (cases_eq m (length links))
     by (inl same) = omega (arith, get_or_at links x [] 0 m (sym same))
     by (inr other) = grind (arith, get_or_append_left links (x ∷ []) 0 m, get_or_past (links ++ x ∷ []) m 0, length_push links x, fall m)
 
--- a table of heads and links to which a new name of the hash k was linked
-module _ (heads links more : List ℕ) (k place head new : ℕ) (places : 0 < length heads) (at : place ≡ k % length heads) (first : head ≡ get_or heads place 0)
-    (is : new ≡ length links + 1) (linked : more ≡ links ++ head ∷ []) where
-  within : place < length heads
-  within = omega (arith, at)
+-- a table in which a name was linked
+module _ (old new : Table) (name : List ℕ) (places : 0 < length old.heads.items) (linked : IsLinked old new name) where
+  abbrev heads : List ℕ
+  heads = old.heads.items
 
-  -- it leads from the new name's place to its number
-  pub new_found : Leads more (get_or (set heads place new) (k % length (set heads place new)) 0) (length links)
+  abbrev links : List ℕ
+  links = old.links.items
+
+  abbrev place : ℕ
+  place = hash_of name % length heads
+
+  abbrev next : ℕ
+  next = length links + 1
+
+  within : place < length heads
+  within = omega arith
+
+  -- it leads from the name to its number
+  pub new_found : Finds new name (length links)
   new_found =
-      let P : ℕ → Type 0 = λ h. Leads more h (length links) in
-      let there = get_or-set_same heads place new 0 within in
-      let same : get_or (set heads place new) (k % length (set heads place new)) 0 ≡ new = ap (λ n. get_or (set heads place new) (k % n) 0) (length-set heads place new) ∙ ap (λ p. get_or (set heads place new) p 0) (sym at) ∙ there in
-      subst P (sym same) (Leads.here new (length links) is)
+      let P : List ℕ → Type 0 = λ hs. Leads new.links.items (get_or hs (hash_of name % length hs) 0) (length links) in
+      let Q : ℕ → Type 0 = λ n. Leads new.links.items (get_or (set heads place next) (hash_of name % n) 0) (length links) in
+      let there : Leads new.links.items (get_or (set heads place next) place 0) (length links) =
+      Leads.here _ (length links) (get_or-set_same heads place next 0 within) in
+      inl (subst P (sym linked.heads) (subst Q (sym (length-set heads place next)) there))
 
   -- and from other names to theirs
-  pub old_found : (h n : ℕ) → Leads links (get_or heads (h % length heads) 0) n → Leads more (get_or (set heads place new) (h % length (set heads place new)) 0) n
-  old_found h n leads =
-      let P : List ℕ → Type 0 = λ ls. Leads ls (get_or (set heads place new) (h % length (set heads place new)) 0) n in
-      let Q : ℕ → Type 0 = λ l. Leads (links ++ head ∷ []) (get_or (set heads place new) (h % l) 0) n in
-      let R : ℕ → Type 0 = λ x. Leads (links ++ x ∷ []) (get_or (set heads place new) (h % length heads) 0) n in
-      subst P (sym linked) (subst Q (sym (length-set heads place new)) (subst R (sym first) (leads_past heads links place (h % length heads) new n within is leads)))
+  pub old_found : (other : List ℕ) (n : ℕ) → Finds old other n → Finds new other n
+  old_found other n (inl leads) =
+      let P : List ℕ → Type 0 = λ hs. Leads new.links.items (get_or hs (hash_of other % length hs) 0) n in
+      let Q : ℕ → Type 0 = λ l. Leads new.links.items (get_or (set heads place next) (hash_of other % l) 0) n in
+      let R : List ℕ → Type 0 = λ ls. Leads ls (get_or (set heads place next) (hash_of other % length heads) 0) n in
+      let past = leads_past heads links place (hash_of other % length heads) next n within refl leads in
+      inl (subst P (sym linked.heads) (subst Q (sym (length-set heads place next)) (subst R (sym linked.links) past)))
+  old_found other n (inr there) = inr (ap (λ tree. number_in tree other) linked.tree ∙ there)
 
-  pub heads_kept : ((p : ℕ) → get_or heads p 0 ≤ length links) → (p : ℕ) → get_or (set heads place new) p 0 ≤ length more
-  heads_kept old p = omega (arith, ap length linked, length_push links head, heads_within heads (length links) place new old within (omega arith) p)
+  heads_kept : IsSmooth old → (p : ℕ) → get_or new.heads.items p 0 ≤ length new.links.items
+  heads_kept smooth p =
+      omega (
+        arith,
+        ap length linked.links,
+        length_push links (get_or heads place 0),
+        ap (λ hs. get_or hs p 0) linked.heads,
+        heads_within heads (length links) place next smooth.heads within (omega arith) p,
+      )
 
-  pub links_kept : ((p : ℕ) → get_or heads p 0 ≤ length links) → ((m : ℕ) → get_or links m 0 ≤ m) → (m : ℕ) → get_or more m 0 ≤ m
-  links_kept old fall m =
+  links_kept : IsSmooth old → (m : ℕ) → get_or new.links.items m 0 ≤ m
+  links_kept smooth m =
       let P : List ℕ → Type 0 = λ ls. get_or ls m 0 ≤ m in
-      subst P (sym linked) (links_fall links head fall (omega (arith, first, old place)) m)
+      subst P (sym linked.links) (links_fall links (get_or heads place 0) smooth.links (omega (arith, smooth.heads place)) m)
+
+  pub kept_smooth : IsSmooth old → IsSmooth new
+  kept_smooth smooth = record { heads = heads_kept smooth; links = links_kept smooth }

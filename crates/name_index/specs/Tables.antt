@@ -1,5 +1,5 @@
 -- Tables that tell the number of a name from its bytes.
-use Rattle.std.specs.Prelude.{◌≡◌, ◌≢◌, ℕ, ◌+◌, ◌≤◌, ◌%◌, ◌⊎◌, List, Option, Some, true, length, slice_get, slice_index}
+use Rattle.std.specs.Prelude.{◌≡◌, ◌≢◌, ℕ, ◌+◌, ◌≤◌, ◌%◌, ◌⊎◌, List, [], ◌∷◌, ◌++◌, Option, Some, true, length, slice_get, slice_index, slice_set}
 use Rattle.std.specs.BTreeMap.{BTreeMap, get_by}
 use Rattle.std.specs.Global.{Vec}
 use Rattle.std.specs.Ordering.{nat_cmp}
@@ -52,6 +52,12 @@ pub record IsSameBut (name : List ℕ) (old new : Table) : Type 0 where
   pub heads : new.heads.items ≡ old.heads.items
   pub links : new.links.items ≡ old.links.items
   pub others : (other : List ℕ) → other ≢ name → crowded_number new other ≡ crowded_number old other
+
+-- the next number stands in front of those that were linked at the place of a name
+pub record IsLinked (old new : Table) (name : List ℕ) : Type 0 where
+  pub heads : new.heads.items ≡ slice_set old.heads.items (hash_of name % length old.heads.items) (length old.links.items + 1)
+  pub links : new.links.items ≡ old.links.items ++ head_of old name ∷ []
+  pub tree : new.crowded ≡ old.crowded
 
 -- names of which no two are the same, with their table
 pub record IsIndex (names : List (List ℕ)) (t : Table) : Type 0 where

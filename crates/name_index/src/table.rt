@@ -2,7 +2,7 @@
 ghost use Rattle.std.specs.Prelude.{◌≡◌, ◌≢◌, ℕ, ◌+◌, ◌<◌, ◌↔◌, [], ◌∷◌, ◌++◌, List, Some, None, true, length, slice_get, IfOk, OnOk, OnErr, IfSome, IfNone, IsTrue, vec_len};
 ghost use Rattle.std.specs.Vec.{vec_capacity};
 ghost use Rattle.list_defs.specs.Members.{all_differ, place_of, same_name};
-ghost use Rattle.name_index.specs.Tables.{Finds, IsSameBut, IsSmooth, IsTable, KeepsNumbers, Leads, crowded_number, hash_of, head_of, number_in};
+ghost use Rattle.name_index.specs.Tables.{Finds, IsLinked, IsSameBut, IsSmooth, IsTable, KeepsNumbers, Leads, crowded_number, hash_of, head_of, number_in};
 
 use name_rows::Names;
 use std::alloc::{AllocError, Global};
@@ -175,8 +175,19 @@ fn commit(table: &mut Table, name: &[u8])
         table.links.push_reserved(0);
         return;
     }
+    link(table, name);
+}
+
+/// Puts the next number in front of those that are linked at the place of a name.
+fn link(table: &mut Table, name: &[u8])
+    requires few { length table.old.links.items < 4294967295 }
+    requires room { vec_len table.old.links < vec_capacity table.old.links }
+    requires places { 0 < length table.old.heads.items }
+    ensures { IsLinked table.old table.new name.now }
+{
+    let number = table.links.len() as u32;
+    let head = head(table, name);
     let place = hash(name) as usize % table.heads.len();
-    let head = table.heads[place];
     table.heads[place] = number + 1;
     table.links.push_reserved(head);
 }

@@ -8,13 +8,16 @@
 //! - `supply VALUE ..` adds a supply with its values, `off` or microvolts; `supplies` begins anew.
 //! - `legal CONDITION` answers the legal states, `build CONDITION` the number of its set in the table. A condition is
 //!   written from its parts on: `on:0`, `is:0:off`, `is:0:800000`, `apart:0:1:100000`, `true`, `not`, `all:2`, `any:0`.
+//! - `name NAME` answers the number of the name, which it has from its first such line on.
 #![tactic(auto)]
 
 mod conditions;
+mod names;
 mod states;
 mod tables;
 mod words;
 
+use name_index::NameIndex;
 use state_diagrams::Pool;
 use states::Supplies;
 use std::alloc::{AllocError, Global};
@@ -26,6 +29,7 @@ use words::{answer_text, numbers_of, unknown, words_of};
 struct Session {
     table: Option<Pool>,
     supplies: Supplies,
+    names: NameIndex,
 }
 
 /// The answer of a call.
@@ -39,6 +43,7 @@ fn answer(alloc: Global, session: &mut Session, words: &[&str]) -> Result<String
             String::from_str(alloc, "supplies")
         }
         "supply" => session.supplies.add(alloc, arguments),
+        "name" => names::number_text(alloc, &mut session.names, arguments),
         "legal" => states::legal_text(alloc, &session.supplies, arguments),
         "table" => {
             session.table = tables::table_of(alloc, arguments)?;
@@ -73,6 +78,7 @@ fn main(rt: HostRuntime) -> io::Result<()> {
     let mut session = Session {
         table: None,
         supplies: Supplies::new(alloc),
+        names: NameIndex::new(alloc),
     };
     for line in rt.lines(alloc) {
         let line = line?;

@@ -8,6 +8,7 @@
 //! - `supply VALUE ..` adds a supply with its values, `off` or microvolts; `supplies` begins anew.
 //! - `legal CONDITION` answers the legal states, `build CONDITION` the number of its set in the table. A condition is
 //!   written from its parts on: `on:0`, `is:0:off`, `is:0:800000`, `apart:0:1:100000`, `true`, `not`, `all:2`, `any:0`.
+//! - `read_volts TEXT` answers microvolts, `form` or `range`; `volts_text MICROVOLTS` answers volts.
 //! - `name NAME` answers the number of the name, which it has from its first such line on.
 #![tactic(auto)]
 
@@ -15,6 +16,7 @@ mod conditions;
 mod names;
 mod states;
 mod tables;
+mod voltages;
 mod words;
 
 use name_index::NameIndex;
@@ -43,6 +45,8 @@ fn answer(alloc: Global, session: &mut Session, words: &[&str]) -> Result<String
             String::from_str(alloc, "supplies")
         }
         "supply" => session.supplies.add(alloc, arguments),
+        "read_volts" => voltages::read_text(alloc, arguments),
+        "volts_text" => voltages::printed_text(alloc, arguments),
         "name" => names::number_text(alloc, &mut session.names, arguments),
         "legal" => states::legal_text(alloc, &session.supplies, arguments),
         "table" => {

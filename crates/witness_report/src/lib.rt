@@ -1,13 +1,14 @@
 //! The text of a report.
 #![tactic(auto)]
 
-ghost use Rattle.std.specs.Prelude.{◌≡◌, ◌∷◌, ◌++◌, length, All, IfOk, OnOk, Some, codes, ◌+◌, ◌%◌};
+ghost use Rattle.std.specs.Prelude.{◌≡◌, ◌∷◌, ◌++◌, length, All, IfOk, OnOk, Some, codes};
 ghost use Rattle.std.specs.List.{flat_map, zip};
-ghost use Rattle.text_defs.specs.Text.{six_digits, value_text, volts};
+ghost use Rattle.text_defs.specs.Text.{value_text};
 ghost use Rattle.signoff_defs.specs.ReportText.{HasWholeWitness, boundary_text, count_text, finding_line, finding_text, forced_text, kind_text, report_text, supplies_text, values_text, witness_text};
 
 use itoa::Buffer;
 use pw_defs::{Boundary, Bytes, Finding, Kind, Memory, Name, Report, State, Value};
+use pw_lex::volts_text;
 use std::alloc::{AllocError, Global};
 
 /// The text of a report, which ends with a newline. `Memory` comes where memory runs out, and for a text that
@@ -155,36 +156,9 @@ fn put_value(text: &mut Bytes, value: Value) -> Result<(), AllocError>
 {
     match value {
         Value::Off => text.put(b"off"),
-        Value::On(microvolts) => put_volts(text, microvolts),
+        Value::On(microvolts) => match volts_text(microvolts, text) {
+            Ok(()) => Ok(()),
+            Err(Memory) => Err(AllocError),
+        },
     }
-}
-
-/// Volts with six decimals.
-fn put_volts(text: &mut Bytes, microvolts: u32) -> Result<(), AllocError>
-    ensures { OnOk result (text.new ≡ text.old ++ volts microvolts) }
-{
-    let mut buffer = Buffer::new();
-    text.put(buffer.format(microvolts / 1_000_000).as_bytes())?;
-    text.put(b".")?;
-    text.put(&six_digits(microvolts % 1_000_000))
-}
-
-fn six_digits(number: u32) -> [u8; 6]
-    ensures { result ≡ six_digits number }
-{
-    [
-        digit(number / 100_000),
-        digit(number / 10_000),
-        digit(number / 1_000),
-        digit(number / 100),
-        digit(number / 10),
-        digit(number),
-    ]
-}
-
-/// The last digit of a number.
-fn digit(number: u32) -> u8
-    ensures { result ≡ 48 + number % 10 }
-{
-    b'0' + (number % 10) as u8
 }

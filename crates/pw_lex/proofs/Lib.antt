@@ -1,0 +1,4 @@
+pub mod DigitLemmas
+pub mod Printed
+pub mod VoltAnswers
+pub mod WorkedVolts

@@ -165,26 +165,89 @@ fn expect_states(
 
 #[test]
 fn lifts_pairs(rt: HostRuntime) -> Result<(), Fail> {
-    // How many values the table's first level has, the set, its two places, and its states in the table, in order.
-    let cases = [
-        // As it is.
-        (2, Pairs::One, at(0, 0, 1), at(1, 0, 1), [[0, 1]].as_slice()),
-        (2, Pairs::Both, at(0, 0, 1), at(1, 0, 1), &[[0, 1], [1, 0]]),
-        (2, Pairs::None, at(0, 0, 1), at(1, 0, 1), &[]),
-        // The places in the other order.
-        (2, Pairs::One, at(1, 0, 1), at(0, 0, 1), &[[1, 0]]),
-        // Other indices, of a level of three values.
-        (3, Pairs::One, at(0, 2, 0), at(1, 0, 1), &[[2, 1]]),
-        (3, Pairs::Both, at(0, 2, 0), at(1, 0, 1), &[[0, 0], [2, 1]]),
-        (3, Pairs::Both, at(1, 1, 0), at(0, 1, 2), &[[1, 0], [2, 1]]),
-        // Both at one place, with the same indices and with those of the other value.
-        (2, Pairs::Both, at(1, 0, 1), at(1, 0, 1), &[]),
-        (2, Pairs::One, at(1, 0, 1), at(1, 1, 0), &[[0, 0], [1, 0]]),
-        (3, Pairs::Both, at(0, 0, 2), at(0, 1, 0), &[[0, 0], [0, 1]]),
-    ];
-    for (arity, set, first, second, want) in cases {
-        expect_lifted(&rt, rt.alloc(), arity, set, first, second, want).map_err(named)?;
-    }
+    expect_lifts(&rt, rt.alloc()).map_err(named)
+}
+
+/// Checks sets of pairs at places of tables, each with its states in their order.
+fn expect_lifts(rt: &impl Abort, alloc: Global) -> Result<(), DiagFault> {
+    // As it is.
+    expect_lifted(
+        rt,
+        alloc,
+        2,
+        Pairs::One,
+        at(0, 0, 1),
+        at(1, 0, 1),
+        &[[0, 1]],
+    )?;
+    expect_lifted(
+        rt,
+        alloc,
+        2,
+        Pairs::Both,
+        at(0, 0, 1),
+        at(1, 0, 1),
+        &[[0, 1], [1, 0]],
+    )?;
+    expect_lifted(rt, alloc, 2, Pairs::None, at(0, 0, 1), at(1, 0, 1), &[])?;
+    // The places in the other order.
+    expect_lifted(
+        rt,
+        alloc,
+        2,
+        Pairs::One,
+        at(1, 0, 1),
+        at(0, 0, 1),
+        &[[1, 0]],
+    )?;
+    // Other indices, of a level of three values.
+    expect_lifted(
+        rt,
+        alloc,
+        3,
+        Pairs::One,
+        at(0, 2, 0),
+        at(1, 0, 1),
+        &[[2, 1]],
+    )?;
+    expect_lifted(
+        rt,
+        alloc,
+        3,
+        Pairs::Both,
+        at(0, 2, 0),
+        at(1, 0, 1),
+        &[[0, 0], [2, 1]],
+    )?;
+    expect_lifted(
+        rt,
+        alloc,
+        3,
+        Pairs::Both,
+        at(1, 1, 0),
+        at(0, 1, 2),
+        &[[1, 0], [2, 1]],
+    )?;
+    // Both at one place, with the same indices and with those of the other value.
+    expect_lifted(rt, alloc, 2, Pairs::Both, at(1, 0, 1), at(1, 0, 1), &[])?;
+    expect_lifted(
+        rt,
+        alloc,
+        2,
+        Pairs::One,
+        at(1, 0, 1),
+        at(1, 1, 0),
+        &[[0, 0], [1, 0]],
+    )?;
+    expect_lifted(
+        rt,
+        alloc,
+        3,
+        Pairs::Both,
+        at(0, 0, 2),
+        at(0, 1, 0),
+        &[[0, 0], [0, 1]],
+    )?;
     Ok(())
 }
 

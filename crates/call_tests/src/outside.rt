@@ -25,21 +25,6 @@ fn two_files(alloc: Global) -> Result<List<(Name, Bytes)>, AllocError>
     Ok(files)
 }
 
-/// One file, named `long`, of 67,108,864 bytes and these.
-fn long_file(alloc: Global, more: &[u8]) -> Result<List<(Name, Bytes)>, Fail>
-    ensures { IfOk result (λ files. all_differ same_name (map (λ file. file.0) files) ≡ true) }
-{
-    let mut text = Vec::new(alloc);
-    for _ in 0..8192 {
-        text.extend_from_slice(&[b'x'; 8192])?;
-    }
-    text.extend_from_slice(more)?;
-    let mut files = List::new(alloc);
-    let name = Name::from_slice(alloc, b"long")?;
-    files.push((name, Bytes::from_vec(text).ok_or("the text fits")?))?;
-    Ok(files)
-}
-
 /// Fetches a file and looks at the answer and at the bytes that are left.
 fn expect_fetch<S: Shelf>(
     rt: &impl Abort,
@@ -75,17 +60,6 @@ fn sure_shelf_gives_what_it_holds(rt: HostRuntime) -> Result<(), Fail> {
     expect_fetch(&rt, alloc, &mut shelf, "a.v", Ok(()), b"module a;");
     expect_fetch(&rt, alloc, &mut shelf, "empty", Ok(()), b"");
     expect_fetch(&rt, alloc, &mut shelf, "b.v", Err(ShelfFault::Absent), b"");
-    let mut shelf = SureShelf::new(alloc, long_file(alloc, b"")?);
-    expect_length(&rt, alloc, &mut shelf, "long", Ok(()), 67_108_864);
-    let mut shelf = SureShelf::new(alloc, long_file(alloc, b"y")?);
-    expect_length(
-        &rt,
-        alloc,
-        &mut shelf,
-        "long",
-        Err(ShelfFault::TooLong),
-        67_108_865,
-    );
     Ok(())
 }
 

@@ -1,11 +1,12 @@
 -- The rows of the two blocks: they can be read, and their design is that of the two blocks.
-use Rattle.std.proofs.Common.{◌≡◌, ◌≢◌, ℕ, zero, suc, ◌+◌, ◌<◌, ◌≤◌, List, [], ◌∷◌, length, map, take, refl, ap, ◌∙◌, arith}
+use Rattle.std.proofs.Common.{◌≡◌, ℕ, zero, suc, ◌+◌, ◌<◌, ◌≤◌, List, [], ◌∷◌, length, map, take, refl, ap, ◌∙◌, arith}
 use Rattle.std.specs.Global.{Vec}
 use Rattle.std.specs.List.{range_with_len, sum_by}
 use Rattle.std.specs.Prelude.{codes}
 use Rattle.pw_defs.specs.declared.design.Bit.{Bit}
 use Rattle.pw_defs.specs.declared.design.Body.TheVariants.{Module, Cell}
 use Rattle.pw_defs.specs.declared.design.Design.{Design}
+use Rattle.pw_defs.specs.declared.design.Instance.{Instance}
 use Rattle.worked_jobs.specs.Designs.{pair}
 use Rattle.worked_jobs.specs.Libraries.{library}
 use Rattle.design_rows.specs.Sound.{AreRows, Owns}
@@ -58,10 +59,11 @@ the_bits feeds same = rw same refl
 
 pub the_design : (feeds : Vec Feed) → feeds.items ≡ feeds_of_pair → design_of (rows insts feeds) ≡ pair
 the_design feeds same =
-    let bits : map (bit_at (rows insts feeds)) (range_with_len 0 (length feeds.items)) ≡ pair.bits =
-    ap (λ n. map (bit_at (rows insts feeds)) (range_with_len 0 n)) (ap length same) ∙ the_bits feeds same in
-    let instances = the_instances feeds in
-    cc
+    let made : List Instance → List Bit → Design =
+    λ is bs. record { cells = library; modules = pair.modules; models = []; insts = is; bits = bs } in
+    let bits_of : ℕ → List Bit = λ n. map (bit_at (rows insts feeds)) (range_with_len 0 n) in
+    ap (λ is. made is (bits_of (length feeds.items))) (the_instances feeds)
+    ∙ ap (made pair.insts) (ap bits_of (ap length same) ∙ the_bits feeds same)
 
 -- the rows can be read
 pub they_are_rows : (feeds : Vec Feed) → feeds.items ≡ feeds_of_pair → AreRows (rows insts feeds)

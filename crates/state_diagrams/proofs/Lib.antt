@@ -5,3 +5,4 @@ pub mod JoinLemmas
 pub mod Levels
 pub mod Memo
 pub mod Shapes
+pub mod OneNumber

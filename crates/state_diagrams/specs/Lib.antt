@@ -3,3 +3,4 @@ pub mod Masks
 pub mod Nodes
 pub mod Pools
 pub mod Remembered
+pub mod Uniqueness

@@ -37,6 +37,22 @@ impl Pool {
         self.joined(Join::Neither, level, 0, 0)
     }
 
+    /// The number of the set of all rests of a level, where it is remembered. Nothing is added.
+    pub fn full_there(&self, level: u32) -> Option<u32>
+        ensures { IfSome result (IsNumberFor self.now level (full_set self.now level)) }
+    {
+        let task = Task {
+            join: Join::Neither,
+            level,
+            a: 0,
+            b: 0,
+        };
+        match self.recall(task) {
+            Some(n) => Some(n),
+            None => None,
+        }
+    }
+
     /// The number of the rests of a level that aren't in a set of the level. `Bound` comes only where the table is
     /// full and a part of the result has no node.
     pub fn complement(&mut self, level: u32, a: u32) -> Result<u32, DiagFault>

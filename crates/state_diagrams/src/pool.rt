@@ -6,6 +6,7 @@ ghost use Rattle.diagram_defs.specs.Sets.{case_set};
 ghost use Rattle.diagram_defs.specs.Answers.{MakesSet};
 ghost use Rattle.state_diagrams.specs.Nodes.{shape, IsNumberOf, IsAbsent, IsPut, IsRefusal, HasNoKid};
 ghost use Rattle.state_diagrams.specs.Remembered.{IsRemembered};
+ghost use Rattle.state_diagrams.specs.Uniqueness.{HasOneNumberEach};
 
 use crate::joins::Task;
 use crate::nodes::{Node, find, put};
@@ -108,6 +109,13 @@ impl Pool {
         ensures { IsTrue result ↔ (n ≡ 0) }
     {
         n == 0
+    }
+
+    /// Says that numbers of a level are equal exactly where their sets are, so that sets may be compared by number.
+    pub fn one_number(&self)
+        ensures { HasOneNumberEach self.now }
+    {
+        let _count = self.nodes();
     }
 
     /// Whether a rest is in the set of a number. It isn't where it has no index for each level from the number's on.

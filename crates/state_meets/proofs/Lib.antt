@@ -1,6 +1,6 @@
-pub mod Fulls
 pub mod Meetings
 pub mod Meets
+pub mod Padding
 pub mod Reasons
 pub mod Remembering
 pub mod Spreading

@@ -1,20 +1,18 @@
 -- Several sets at once: one level down, behind the last level, and in a table that has grown.
-use Rattle.std.proofs.Common.{◌≡◌, ◌≢◌, ℕ, zero, suc, ◌+◌, ◌-◌, ◌≤◌, ◌<◌, Bool, true, false, if◌then◌else◌, ◌&&◌, nat_eq, List, [], ◌∷◌, ◌++◌, map, drop, length, get_or, refl, sym, ap, ◌∙◌, subst, inl, inr, arith}
-use Rattle.std.specs.List.{All}
-use Rattle.std.proofs.Math.Bool.{and-true, and-false}
-use Rattle.std.proofs.lemmas.Bool.{and_parts, false≢true}
-use Rattle.std.proofs.lemmas.List.{drop_more, drop-drop, drop_all, get_or-drop}
+use Rattle.std.proofs.Common.{◌≡◌, ℕ, suc, ◌+◌, ◌<◌, Bool, true, false, if◌then◌else◌, ◌&&◌, nat_eq, List, [], ◌∷◌, map, drop, length, get_or, refl, sym, ap, ◌∙◌, subst, arith}
+use Rattle.std.proofs.Math.Bool.{and-false}
+use Rattle.std.proofs.lemmas.Bool.{and_parts}
+use Rattle.std.proofs.lemmas.List.{drop_more, drop_all, get_or-drop}
 use Rattle.std.proofs.lemmas.List.Elements.{All-weaker, All-append, All-map}
 use Rattle.diagram_defs.specs.declared.quantifiers.Quantifier.{Quantifier}
-use Rattle.diagram_defs.specs.declared.quantifiers.Quantifier.TheVariants as which
 use Rattle.diagram_defs.specs.Rests.{is_rest}
-use Rattle.diagram_defs.specs.Diagrams.{Diagram, Shape, kid, member, IsPool, IsSet, IsNumberFor, AreRests, Grows}
+use Rattle.diagram_defs.specs.Diagrams.{Diagram, kid, member, IsPool, IsSet, IsNumberFor, AreRests, Grows}
 use Rattle.diagram_defs.specs.Diagrams.IsKid.{empty, whole}
 use Rattle.diagram_defs.specs.Sets.{full_set}
 use Rattle.diagram_defs.specs.Quantified.{quantified, quantified_two, quantified_none, deciding}
 use Rattle.diagram_defs.proofs.Guards.{guarded}
-use Rattle.diagram_defs.proofs.Meaning.{member-empty, IsKid-kid, last_number}
-use Rattle.diagram_defs.proofs.Growth.{IsSet_grows, member_grows, IsNumberFor_grows, IsNumberFor_same}
+use Rattle.diagram_defs.proofs.Meaning.{member-empty, IsKid-kid}
+use Rattle.diagram_defs.proofs.Growth.{IsSet_grows, member_grows, IsNumberFor_same}
 use Rattle.diagram_defs.proofs.Quantifying.{quantified_append, quantified_map, quantified_first, quantified_nothing, two_none, two_decides, two_grouped}
 use Rattle.diagram_defs.proofs.Steps.{rest_behind}
 use Rattle.state_meets.specs.Walks.{meet, later, walk_set, AreSets, AreBegun, Stands, numbers_behind}

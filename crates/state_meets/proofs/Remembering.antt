@@ -1,5 +1,5 @@
 -- What a walk remembers, and what it knew before, stays right.
-use Rattle.std.proofs.Common.{◌≡◌, ℕ, ◌+◌, Bool, true, cond, List, Option, Some, length, get_or, drop, sym, ap, ◌∙◌, subst, inl, inr, Result, Ok, Err, OnOk, OnErr}
+use Rattle.std.proofs.Common.{◌≡◌, ℕ, ◌+◌, Bool, cond, List, Option, Some, length, sym, ap, ◌∙◌, subst, inl, inr, Result, Ok, Err, OnOk, OnErr}
 use Rattle.std.specs.declared.hash.FoldHasher.{FoldHasher}
 use Rattle.std.specs.declared.hash.BuildHasherDefault.{BuildHasherDefault}
 use Rattle.std.specs.Cmp.Lexicographic.{same_text}
@@ -8,14 +8,12 @@ use Rattle.std.specs.Map.{lookup}
 use Rattle.std.proofs.lemmas.Bool.{and_parts, eqb-true, cases_Bool}
 use Rattle.std.proofs.lemmas.Option.{same_Some}
 use Rattle.diagram_defs.specs.declared.quantifiers.Quantifier.{Quantifier}
-use Rattle.diagram_defs.specs.Rests.{is_rest}
 use Rattle.diagram_defs.specs.Diagrams.{Diagram, Grows}
-use Rattle.diagram_defs.specs.Sets.{full_set}
 use Rattle.diagram_defs.proofs.Growth.{IsNumberFor_grows, IsNumberFor_same}
 use Rattle.state_meets.specs.declared.plans.Plan.{Plan}
 use Rattle.state_meets.specs.declared.tuples.Tuple.{Tuple}
 use Rattle.state_meets.specs.contracts.tuples.TuplePartialEq.TheImpl.{eq-value}
-use Rattle.state_meets.specs.Walks.{AreSets, AreBegun, walk_set}
+use Rattle.state_meets.specs.Walks.{AreBegun, walk_set}
 use Rattle.state_meets.specs.Gathered.{IsPlan, begun_of}
 use Rattle.state_meets.specs.Memos.{IsRemembered, IsMemo}
 use Rattle.state_meets.proofs.Meets.{AreSets_grow, AreBegun_grow, walk_grows}
@@ -25,7 +23,6 @@ pub IsPlan_grows : (old new : Diagram) (plan : Plan) → Grows old new → IsPla
 IsPlan_grows old new plan g is = record {
   count = is.count ∙ ap (λ (arities : List ℕ). length arities + 1) (sym g.arities);
   begun = AreBegun_grow old new 0 (begun_of plan) g is.begun;
-  fulls = λ level some. IsNumberFor_same new level (full_set old level) (full_set new level) (get_or plan.fulls.items level 0) (λ rest. ap (λ (arities : List ℕ). is_rest (drop level arities) rest) (sym g.arities)) (IsNumberFor_grows old new level (full_set old level) (get_or plan.fulls.items level 0) g (is.fulls level some));
 }
 
 -- one result

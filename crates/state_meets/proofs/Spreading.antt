@@ -1,9 +1,8 @@
 -- Sets by the levels at which they begin.
-use Rattle.std.proofs.Common.{◌≡◌, ℕ, zero, suc, ◌+◌, ◌-◌, ◌≤◌, ◌<◌, Bool, true, false, ◌&&◌, List, [], ◌∷◌, ◌++◌, map, set, take, drop, replicate, length, get_or, refl, sym, ap, ◌∙◌, subst, inl, inr, arith}
-use Rattle.std.specs.List.{All}
+use Rattle.std.proofs.Common.{◌≡◌, ℕ, zero, suc, ◌+◌, ◌-◌, ◌≤◌, ◌<◌, Bool, true, ◌&&◌, List, [], ◌∷◌, ◌++◌, set, drop, replicate, length, get_or, refl, sym, ap, ◌∙◌, subst, inl, inr, arith}
 use Rattle.std.proofs.lemmas.Bool.{cases_eq}
 use Rattle.std.proofs.lemmas.Grind.{get_or-set_at}
-use Rattle.std.proofs.lemmas.List.{drop-drop, drop_more, get_or-set_other, get_or-replicate, length-set, length-replicate, take_more}
+use Rattle.std.proofs.lemmas.List.{drop-drop, drop_more, get_or-set_other, length-set, length-replicate}
 use Rattle.std.proofs.lemmas.List.Elements.{All-nil, All-push}
 use Rattle.diagram_defs.specs.declared.locals.Local.{Local}
 use Rattle.diagram_defs.specs.declared.quantifiers.Quantifier.{Quantifier}
@@ -16,7 +15,7 @@ use Rattle.diagram_defs.specs.Quantified.{quantified, quantified_two, quantified
 use Rattle.diagram_defs.proofs.Guards.{guarded, guards_second}
 use Rattle.diagram_defs.proofs.Listed.{is_rest-drop}
 use Rattle.diagram_defs.proofs.Quantifying.{quantified_append, quantified_first, quantified_nothing, two_none, two_grouped, two_moved}
-use Rattle.state_meets.specs.Walks.{meet, later, walk_set, AreSets, AreBegun}
+use Rattle.state_meets.specs.Walks.{meet, later, walk_set, AreSets}
 use Rattle.state_meets.specs.Gathered.{gathered_set}
 use Rattle.state_meets.specs.Planned.{IsSpread, Begins}
 

@@ -1,15 +1,13 @@
 -- Tuples that may be taken in place of numbers.
-use Rattle.std.proofs.Common.{◌≡◌, ℕ, zero, suc, ◌+◌, ◌<◌, Bool, true, not, ◌&&◌, List, [], ◌∷◌, ◌++◌, take, drop, length, get_or, refl, sym, ap, ◌∙◌, subst, inl, inr, arith}
-use Rattle.std.specs.List.{All, Contains}
+use Rattle.std.proofs.Common.{◌≡◌, ℕ, zero, suc, ◌+◌, ◌<◌, Bool, ◌&&◌, List, [], ◌∷◌, ◌++◌, take, drop, length, get_or, refl, sym, ap, ◌∙◌, arith}
+use Rattle.std.specs.List.{Contains}
 use Rattle.std.proofs.lemmas.List.{drop_more}
 use Rattle.std.proofs.lemmas.List.Elements.{All-nil, All-push, All-weaker, All-contains, All-contains_itself}
 use Rattle.diagram_defs.specs.declared.quantifiers.Quantifier.{Quantifier}
-use Rattle.diagram_defs.specs.declared.quantifiers.Quantifier.TheVariants as which
 use Rattle.diagram_defs.specs.Diagrams.{Diagram, member, IsSet, IsNumberFor}
-use Rattle.diagram_defs.specs.Sets.{full_set}
-use Rattle.diagram_defs.specs.Quantified.{quantified, quantified_two, quantified_none, deciding}
+use Rattle.diagram_defs.specs.Quantified.{quantified_two, quantified_none, deciding}
 use Rattle.diagram_defs.proofs.Quantifying.{quantified_append, quantified_first, quantified_nothing, two_none, two_decided, two_decides, same_members}
-use Rattle.state_meets.specs.Walks.{meet, AreSets, Stands, constant_set}
+use Rattle.state_meets.specs.Walks.{meet, Stands, constant_set}
 
 module _ (d : Diagram) (q : Quantifier) (level : ℕ) where
   alone : (n : ℕ) (rest : List ℕ) → meet q d.nodes (n ∷ []) rest ≡ member d.nodes n rest

@@ -1,5 +1,5 @@
 -- What a set of a small table has in common with a set of another that begins at the second level.
-use Rattle.std.proofs.Common.{◌≡◌, ℕ, true, false, List, [], ◌∷◌, refl}
+use Rattle.std.proofs.Common.{◌≡◌, true, false, [], ◌∷◌, refl}
 use Rattle.diagram_defs.specs.Worked.{small_table, second_is_one}
 use Rattle.state_meets.specs.Common.{is_common, is_in_both}
 

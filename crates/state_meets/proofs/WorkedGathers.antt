@@ -1,5 +1,5 @@
 -- What is gathered from two sets of a small table.
-use Rattle.std.proofs.Common.{◌≡◌, Bool, true, false, List, [], ◌∷◌, refl}
+use Rattle.std.proofs.Common.{◌≡◌, true, false, [], ◌∷◌, refl}
 use Rattle.diagram_defs.specs.declared.quantifiers.Quantifier.TheVariants as which
 use Rattle.diagram_defs.specs.Worked.{small_table, second_is_one}
 use Rattle.state_meets.specs.Gathered.{gathered_set}

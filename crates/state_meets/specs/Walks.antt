@@ -1,7 +1,7 @@
 -- Several sets at once, where some begin at later levels.
-use Rattle.std.specs.Prelude.{◌≡◌, ◌≢◌, ℕ, ◌+◌, ◌≤◌, Bool, true, ◌&&◌, List, [], ◌∷◌, ◌++◌, All, map, drop, length, slice_index, slice_index_or}
+use Rattle.std.specs.Prelude.{◌≡◌, ℕ, ◌+◌, Bool, true, ◌&&◌, List, [], ◌∷◌, ◌++◌, All, map, drop, slice_index_or}
 use Rattle.diagram_defs.specs.declared.quantifiers.Quantifier.{Quantifier}
-use Rattle.diagram_defs.specs.Diagrams.{Diagram, Shape, IsSet, IsNumberFor, kid, member}
+use Rattle.diagram_defs.specs.Diagrams.{Diagram, Shape, IsSet, kid, member}
 use Rattle.diagram_defs.specs.Sets.{full_set}
 use Rattle.diagram_defs.specs.Quantified.{quantified, quantified_two, quantified_none}
 

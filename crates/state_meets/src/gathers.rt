@@ -7,7 +7,7 @@ ghost use Rattle.diagram_defs.specs.Answers.{Yields};
 ghost use Rattle.state_meets.specs.Gathered.{gathered_set, IsReason};
 
 use crate::faults::GatherFault;
-use crate::plans::{first_level, plan_of};
+use crate::plans::{begun_at, plan_of};
 use crate::tuples::Tuple;
 use crate::walks::walk;
 use diagram_defs::{Local, Quantifier};
@@ -31,8 +31,8 @@ pub fn gather(
 {
     let alloc = pool.allocator();
     let plan = plan_of(pool, which, sets, budget)?;
-    let level = first_level(pool, &plan);
-    let numbers = SmallVec::from_slice(alloc, plan.begun[level as usize].as_slice())?;
+    let level = plan.before;
+    let numbers = SmallVec::from_slice(alloc, begun_at(&plan, level))?;
     let mut memo = HashMap::new(alloc);
     let number = walk(pool, &plan, &mut memo, Tuple { level, numbers })?;
     Ok(Local { level, number })

@@ -1,25 +1,32 @@
 //! What a walk over several sets knows before it begins.
 
-ghost use Rattle.std.specs.Prelude.{◌≡◌, ◌≤◌, ◌<◌, ◌+◌, ◌++◌, [], ◌∷◌, ℕ, List, IfOk, OnOk, map, set, replicate, length, drop, slice_index, slice_index_or};
-ghost use Rattle.diagram_defs.specs.Diagrams.{Diagram, IsPool, IsSet, IsNumberFor};
-ghost use Rattle.diagram_defs.specs.Sets.{full_set};
+ghost use Rattle.std.specs.Prelude.{◌≡◌, ◌≤◌, ◌<◌, ◌+◌, ◌++◌, [], ◌∷◌, ℕ, List, IfOk, OnOk, map, set, replicate, length, slice_index_or};
+ghost use Rattle.diagram_defs.specs.Diagrams.{IsPool, IsSet};
 ghost use Rattle.diagram_defs.specs.Locals.{AreLocals};
-ghost use Rattle.state_meets.specs.Gathered.{IsFullNumber, begun_of};
-ghost use Rattle.state_meets.specs.Planned.{IsPlanFor, AreFulls, Begins, IsSpread};
+ghost use Rattle.state_meets.specs.Gathered.{begun_of, padded};
+ghost use Rattle.state_meets.specs.Planned.{IsPlanFor, IsSpread, AreWithin};
 
 use diagram_defs::{Local, Quantifier};
-use smallvec::SmallVec;
 use state_diagrams::Pool;
 use std::alloc::{AllocError, Global};
 
-/// Whether a walk looks for what is in all sets or in any, the numbers that begin at each level, the number of all
-/// rests of each level, 0 where it isn't known, and how many tuples the walk may remember.
+/// Whether a walk looks for what is in all sets or in any, the numbers that begin at each of some levels in a row, how
+/// many levels are before and behind those, where nothing begins, and how many tuples the walk may remember.
 #[derive(Drop)]
 pub struct Plan {
     pub which: Quantifier,
+    pub before: u32,
     pub begun: Vec<Vec<u32>>,
-    pub fulls: Vec<u32>,
+    pub behind: u32,
     pub budget: u32,
+}
+
+/// Some levels in a row: how many there are before, in it and behind. The end counts as a level.
+#[derive(Clone, Copy)]
+struct Row {
+    before: u32,
+    count: u32,
+    behind: u32,
 }
 
 /// The plan of a walk over some sets.
@@ -32,40 +39,73 @@ pub fn plan_of(
     requires { AreLocals pool.now sets.now }
     ensures { IfOk result (λ plan. IsPlanFor pool.now which sets.now plan) }
 {
-    let begun = spread(pool, sets)?;
-    let fulls = full_numbers(pool)?;
+    let row = row_of(pool, sets);
+    let begun = spread(pool, sets, row)?;
     Ok(Plan {
         which,
+        before: row.before,
         begun,
-        fulls,
+        behind: row.behind,
         budget,
     })
 }
 
-/// The least level at which a set begins; the number of levels where none begins before.
-pub fn first_level(pool: &Pool, plan: &Plan) -> u32
-    requires { length plan.now.begun.items ≡ length pool.now.arities + 1 }
-    ensures level_in { result ≤ length pool.now.arities }
-    ensures begins { Begins (begun_of plan.now) result }
+/// The numbers of the sets that begin at a level.
+pub fn begun_at(plan: &Plan, level: u32) -> &[u32]
+    ensures { result.now ≡ slice_index_or (begun_of plan.now) level [] }
+{
+    if level < plan.before {
+        return &[];
+    }
+    let at = (level - plan.before) as usize;
+    if at >= plan.begun.len() {
+        return &[];
+    }
+    plan.begun[at].as_slice()
+}
+
+/// The levels from the first one at which a set begins to the last one; the end alone where no set is given.
+fn row_of(pool: &Pool, sets: &[Local]) -> Row
+    requires { AreLocals pool.now sets.now }
+    ensures size { result.before + result.count + result.behind ≡ length pool.now.arities + 1 }
+    ensures low { result.before ≤ length pool.now.arities }
+    ensures within { AreWithin result.before (result.before + result.count) sets.now }
 {
     let _alloc = pool.allocator();
     let levels = pool.level(1);
-    let mut level = 0;
-    while level < levels && plan.begun[level as usize].is_empty() {
-        level += 1;
+    let mut first = levels;
+    let mut last = 0;
+    for local in sets {
+        first = first.min(local.level);
+        last = greater(last, local.level);
     }
-    level
+    let past = greater(last, first) + 1;
+    Row {
+        before: first,
+        count: past - first,
+        behind: levels + 1 - past,
+    }
 }
 
-/// The numbers of the sets, by the levels at which they begin.
-fn spread(pool: &Pool, sets: &[Local]) -> Result<Vec<Vec<u32>>, AllocError>
-    requires { AreLocals pool.now sets.now }
-    ensures { IfOk result (λ begun. IsSpread pool.now sets.now (map (λ numbers. numbers.items) begun.items)) }
+/// The greater of two levels.
+fn greater(a: u32, b: u32) -> u32
+    ensures first { a ≤ result }
+    ensures second { b ≤ result }
+    ensures least { (n : ℕ) → a ≤ n → b ≤ n → result ≤ n }
 {
-    let _alloc = pool.allocator();
-    let mut begun = empty_lists(pool.allocator(), pool.level(1) as usize + 1)?;
+    if a < b { b } else { a }
+}
+
+/// The numbers of the sets, by the levels of the row at which they begin.
+fn spread(pool: &Pool, sets: &[Local], row: Row) -> Result<Vec<Vec<u32>>, AllocError>
+    requires locals { AreLocals pool.now sets.now }
+    requires size { row.before + row.count + row.behind ≡ length pool.now.arities + 1 }
+    requires within { AreWithin row.before (row.before + row.count) sets.now }
+    ensures { IfOk result (λ begun. IsSpread pool.now sets.now (padded row.before (map (λ numbers. numbers.items) begun.items) row.behind)) }
+{
+    let mut begun = empty_lists(pool.allocator(), row.count as usize)?;
     for local in sets {
-        put_in(begun.as_mut_slice(), local.level, local.number)?;
+        put_in(begun.as_mut_slice(), local.level - row.before, local.number)?;
     }
     Ok(begun)
 }
@@ -90,37 +130,4 @@ fn put_in(begun: &mut [Vec<u32>], level: u32, n: u32) -> Result<(), AllocError>
 {
     begun[level as usize].push(n)?;
     Ok(())
-}
-
-/// The number of all rests of each level, from the last level down until one isn't there.
-fn full_numbers(pool: &Pool) -> Result<Vec<u32>, AllocError>
-    ensures { IfOk result (λ fulls. AreFulls pool.now fulls.items) }
-{
-    let alloc = pool.allocator();
-    let levels = pool.level(1);
-    let mut fulls = Vec::from_elem(alloc, 0, levels as usize + 1)?;
-    fulls[levels as usize] = 1;
-    let mut n = 1;
-    let mut level = levels;
-    while level > 0 && n != 0 {
-        level -= 1;
-        n = full_there(pool, level, n)?;
-        fulls[level as usize] = n;
-    }
-    Ok(fulls)
-}
-
-/// The number of all rests of a level, where it is there, from that of the next level; else 0.
-fn full_there(pool: &Pool, level: u32, next: u32) -> Result<u32, AllocError>
-    requires level_in { level < length pool.now.arities }
-    requires next { IsNumberFor pool.now (level + 1) (full_set pool.now (level + 1)) next }
-    ensures { IfOk result (IsFullNumber pool.now level) }
-{
-    let alloc = pool.allocator();
-    let arity = pool.arity(level);
-    let kids = SmallVec::from_elem(alloc, next, arity as usize)?;
-    match pool.case_there(level, kids) {
-        Some(n) => Ok(n),
-        None => Ok(0),
-    }
 }

@@ -4,10 +4,10 @@ ghost use Rattle.std.specs.Prelude.{◌≡◌, ◌≤◌, ◌<◌, ◌+◌, ◌+
 ghost use Rattle.diagram_defs.specs.Diagrams.{IsPool, IsSet, IsNumberFor, kid};
 ghost use Rattle.diagram_defs.specs.Quantified.{deciding, quantified_none};
 ghost use Rattle.state_meets.specs.Walks.{AreSets, Stands, constant_set};
-ghost use Rattle.state_meets.specs.Gathered.{IsPlan};
+ghost use Rattle.state_meets.specs.Gathered.{IsPlan, IsFullNumber};
 ghost use Rattle.state_meets.specs.Behind.{IsTupleBehind};
 
-use crate::plans::Plan;
+use crate::plans::{Plan, begun_at};
 use diagram_defs::Quantifier;
 use smallvec::SmallVec;
 use state_diagrams::Pool;
@@ -20,6 +20,13 @@ pub struct Tuple {
     pub numbers: SmallVec<u32, 16>,
 }
 
+/// A level of a walk, with the number of all its rests, 0 where it isn't known.
+#[derive(Clone, Copy)]
+pub struct Stage {
+    pub level: u32,
+    pub full: u32,
+}
+
 /// The tuple of what is left behind a value of a tuple's level: the children there, and what begins at the next level.
 /// It is in order and without repeats, numbers that say nothing are left out, and one that decides stands alone.
 pub fn tuple_behind(pool: &Pool, plan: &Plan, tuple: &Tuple, v: u32) -> Result<Tuple, AllocError>
@@ -30,8 +37,16 @@ pub fn tuple_behind(pool: &Pool, plan: &Plan, tuple: &Tuple, v: u32) -> Result<T
 {
     let _alloc = pool.allocator();
     let level = tuple.level + 1;
-    let begun = plan.begun[level as usize].as_slice();
-    let numbers = numbers_kept(pool, plan, level, tuple.numbers.as_slice(), v, begun)?;
+    let full = full_number(pool, level);
+    let begun = begun_at(plan, level);
+    let numbers = numbers_kept(
+        pool,
+        plan,
+        Stage { level, full },
+        tuple.numbers.as_slice(),
+        v,
+        begun,
+    )?;
     Ok(Tuple {
         level,
         numbers: in_order(numbers),
@@ -42,23 +57,23 @@ pub fn tuple_behind(pool: &Pool, plan: &Plan, tuple: &Tuple, v: u32) -> Result<T
 fn numbers_kept(
     pool: &Pool,
     plan: &Plan,
-    level: u32,
+    stage: Stage,
     numbers: &[u32],
     v: u32,
     begun: &[u32],
 ) -> Result<SmallVec<u32, 16>, AllocError>
-    requires plan { IsPlan pool.now plan.now }
-    requires sets { AreSets pool.now level (map (λ n. kid pool.now.nodes n v) numbers.now ++ begun.now) }
-    ensures { IfOk result (λ kept. Stands pool.now plan.now.which level (map (λ n. kid pool.now.nodes n v) numbers.now ++ begun.now) kept.items) }
+    requires full { IsFullNumber pool.now stage.level stage.full }
+    requires sets { AreSets pool.now stage.level (map (λ n. kid pool.now.nodes n v) numbers.now ++ begun.now) }
+    ensures { IfOk result (λ kept. Stands pool.now plan.now.which stage.level (map (λ n. kid pool.now.nodes n v) numbers.now ++ begun.now) kept.items) }
 {
     let mut kept = SmallVec::new(pool.allocator());
     let all = numbers.len() + begun.len();
     for at in 0..all {
         let n = number_behind(pool, numbers, v, begun, at);
-        if is_constant(pool, plan, level, n, decides(plan.which)) {
+        if is_constant(pool, stage, n, decides(plan.which)) {
             return only(pool, n);
         }
-        keep(pool, plan, level, &mut kept, n)?;
+        keep(pool, plan, stage, &mut kept, n)?;
     }
     Ok(kept)
 }
@@ -88,16 +103,16 @@ fn only(pool: &Pool, n: u32) -> Result<SmallVec<u32, 16>, AllocError>
 fn keep(
     pool: &Pool,
     plan: &Plan,
-    level: u32,
+    stage: Stage,
     kept: &mut SmallVec<u32, 16>,
     n: u32,
 ) -> Result<(), AllocError>
-    requires plan { IsPlan pool.now plan.now }
-    requires number { IsSet pool.now level n }
-    ensures { OnOk result ((numbers : List ℕ) → Stands pool.now plan.now.which level numbers kept.old.items →
-        Stands pool.now plan.now.which level (numbers ++ n ∷ []) kept.new.items) }
+    requires full { IsFullNumber pool.now stage.level stage.full }
+    requires number { IsSet pool.now stage.level n }
+    ensures { OnOk result ((numbers : List ℕ) → Stands pool.now plan.now.which stage.level numbers kept.old.items →
+        Stands pool.now plan.now.which stage.level (numbers ++ n ∷ []) kept.new.items) }
 {
-    if is_constant(pool, plan, level, n, !decides(plan.which)) {
+    if is_constant(pool, stage, n, !decides(plan.which)) {
         return Ok(());
     }
     kept.push(n)?;
@@ -115,25 +130,25 @@ fn in_order(numbers: SmallVec<u32, 16>) -> SmallVec<u32, 16>
     numbers
 }
 
-/// Whether a number is known to mean all rests of its level, where `holds`, or else none.
-pub fn is_constant(pool: &Pool, plan: &Plan, level: u32, n: u32, holds: bool) -> bool
-    requires { IsPlan pool.now plan.now }
-    ensures { IsTrue result → IsNumberFor pool.now level (constant_set pool.now level holds) n }
+/// The number of all rests of a level, 0 where it isn't known.
+pub fn full_number(pool: &Pool, level: u32) -> u32
+    ensures { IsFullNumber pool.now level result }
 {
-    if holds {
-        n != 0 && n == full_number(plan, level)
-    } else {
-        n == 0
+    match pool.full_there(level) {
+        Some(n) => n,
+        None => 0,
     }
 }
 
-/// What is known of the number of all rests of a level.
-fn full_number(plan: &Plan, level: u32) -> u32
-    ensures { result ≡ slice_index plan.now.fulls.items level }
+/// Whether a number is known to mean all rests of its level, where `holds`, or else none.
+pub fn is_constant(pool: &Pool, stage: Stage, n: u32, holds: bool) -> bool
+    requires { IsFullNumber pool.now stage.level stage.full }
+    ensures { IsTrue result → IsNumberFor pool.now stage.level (constant_set pool.now stage.level holds) n }
 {
-    match plan.fulls.get(level as usize) {
-        Some(n) => *n,
-        None => 0,
+    if holds {
+        n != 0 && n == stage.full
+    } else {
+        n == 0
     }
 }
 

@@ -13,7 +13,7 @@ ghost use Rattle.state_meets.specs.Memos.{IsMemo, IsRemembered};
 
 use crate::faults::GatherFault;
 use crate::plans::Plan;
-use crate::tuples::{Tuple, decides, is_constant, tuple_behind};
+use crate::tuples::{Stage, Tuple, decides, full_number, is_constant, tuple_behind};
 use diagram_defs::Quantifier;
 use smallvec::SmallVec;
 use state_diagrams::Pool;
@@ -111,7 +111,9 @@ fn decided(pool: &Pool, plan: &Plan, tuple: &Tuple) -> Option<u32>
         return None;
     }
     let n = numbers[0];
-    if is_constant(pool, plan, tuple.level, n, decides(plan.which)) {
+    let level = tuple.level;
+    let full = full_number(pool, level);
+    if is_constant(pool, Stage { level, full }, n, decides(plan.which)) {
         return Some(n);
     }
     None

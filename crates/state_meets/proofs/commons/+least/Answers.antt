@@ -1,7 +1,7 @@
-use Rattle.std.proofs.Common.{◌≡◌, ◌≤◌, ◌<◌, ◌+◌, ℕ, List, ◌∷◌, false, get_or, reverse, length, subst, sym, arith}
+use Rattle.std.proofs.Common.{ℕ, reverse, subst, sym, arith}
 use Rattle.std.proofs.lemmas.Option.{MatchOption-at_some}
 use Rattle.diagram_defs.specs.Diagrams.{IsSet}
-use Rattle.state_meets.specs.Common.{AreDisjoint, IsLeastRest, is_in_both}
+use Rattle.state_meets.specs.Common.{AreDisjoint, IsLeastRest}
 use Rattle.state_meets.proofs.Meetings.{disjoint_behind, least_more}
 use Rattle.state_meets.proofs.commons.+least.Goals as goal
 

@@ -1,4 +1,4 @@
-use Rattle.std.proofs.Common.{◌≡◌, ◌+◌, ◌-◌, ◌&&◌, ℕ, List, drop, length, refl, sym, subst}
+use Rattle.std.proofs.Common.{◌+◌, ◌&&◌, length, refl, sym, subst}
 use Rattle.diagram_defs.specs.Diagrams.{IsSet, member}
 use Rattle.diagram_defs.proofs.Meaning.{IsKid-kid}
 use Rattle.state_meets.proofs.commons.behind.Goals as goal

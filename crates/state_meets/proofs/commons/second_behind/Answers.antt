@@ -1,4 +1,4 @@
-use Rattle.std.proofs.Common.{◌≡◌, ◌+◌, ◌-◌, ◌≤◌, ℕ, List, drop, sym, ap, ◌∙◌, arith}
+use Rattle.std.proofs.Common.{◌+◌, ◌-◌, ◌≤◌, ℕ, drop, ap, ◌∙◌, arith}
 use Rattle.diagram_defs.specs.Diagrams.{member}
 use Rattle.state_meets.proofs.Meetings.{stays, goes_on}
 use Rattle.state_meets.proofs.commons.second_behind.Goals as goal

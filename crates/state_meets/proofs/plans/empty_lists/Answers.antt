@@ -1,4 +1,4 @@
-use Rattle.std.proofs.Common.{◌≡◌, ℕ, [], ◌∷◌, ◌++◌, List, map, replicate, sym, ap, ◌∙◌, arith}
+use Rattle.std.proofs.Common.{◌≡◌, ℕ, [], ◌∷◌, ◌++◌, List, map, replicate, ap, ◌∙◌, arith}
 use Rattle.std.proofs.lemmas.List.{map_push, replicate_more}
 use Rattle.state_meets.proofs.plans.empty_lists.Goals as goal
 

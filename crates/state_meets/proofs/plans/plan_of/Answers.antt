@@ -1,5 +1,5 @@
-use Rattle.std.proofs.Common.{refl, sym, ◌∙◌}
-use Rattle.std.proofs.lemmas.List.{length-map}
+use Rattle.std.proofs.Common.{map, refl}
+use Rattle.state_meets.proofs.Padding.{begins_padded}
 use Rattle.state_meets.proofs.plans.plan_of.Goals as goal
 
 pub returns : goal.returns
@@ -7,10 +7,8 @@ returns c =
     let spread = c.in_ok-begun.ensures in
     record {
       which_is = refl;
-      right = record {
-        count = sym (length-map c.in_ok-begun.begun.items (λ numbers. numbers.items)) ∙ spread.count;
-        begun = spread.begun_in;
-        fulls = c.in_ok-fulls.ensures;
-      };
+      right = record { count = spread.count; begun = spread.begun_in };
       spread = spread;
+      low = c.row_of-row.ensures.low;
+      begins = begins_padded c.row_of-row.result.before (map (λ numbers. numbers.items) c.in_ok-begun.begun.items) c.row_of-row.result.behind;
     }

@@ -1,5 +1,4 @@
-use Rattle.std.proofs.Common.{◌≡◌, ◌<◌, ℕ, ◌+◌, Bool, List, [], ◌++◌, map, get_or, length, refl, sym, ap, ◌∙◌, subst, arith}
-use Rattle.std.proofs.lemmas.List.{get_or-map}
+use Rattle.std.proofs.Common.{◌≡◌, ℕ, ◌+◌, List, [], ◌++◌, map, get_or, refl, sym, ap, ◌∙◌, subst}
 use Rattle.diagram_defs.specs.Diagrams.{kid}
 use Rattle.state_meets.specs.Walks.{Stands, AreSets, numbers_behind}
 use Rattle.state_meets.specs.Gathered.{begun_of}
@@ -9,14 +8,11 @@ use Rattle.state_meets.proofs.tuples.tuple_behind.Goals as goal
 use Rattle.state_meets.proofs.tuples.tuple_behind.Goals.{After-as_slice}
 
 -- the numbers behind the value, as they are read
-read : (c : After-as_slice) → numbers_behind c.args.pool.now.nodes (begun_of c.args.plan.now) c.args.tuple.now.level c.args.tuple.now.numbers.items c.args.v ≡ map (λ n. kid c.args.pool.now.nodes n c.args.v) c.as_slice.result.now ++ c.as_slice-begun.result.now
+read : (c : After-as_slice) → numbers_behind c.args.pool.now.nodes (begun_of c.args.plan.now) c.args.tuple.now.level c.args.tuple.now.numbers.items c.args.v ≡ map (λ n. kid c.args.pool.now.nodes n c.args.v) c.as_slice.result.now ++ c.begun_at-begun.result.now
 read c =
-    let plan = c.args.plan.now in
     let level = c.args.tuple.now.level in
     let kids : List ℕ → List ℕ = λ ns. map (λ n. kid c.args.pool.now.nodes n c.args.v) ns in
-    let inside : level + 1 < length plan.begun.items = let e = c.requires.plan.count in let f = c.requires.level_in in omega arith in
-    let begun = c.as_slice-begun.ensures.value ∙ ap (λ v. v.items) c.index.ensures ∙ sym (get_or-map (λ v. v.items) plan.begun.items (level + 1) c.index.result.now [] inside) in
-    ap (λ (ns : List ℕ). kids ns ++ get_or (begun_of plan) (level + 1) []) (sym c.as_slice.ensures) ∙ ap (λ (ms : List ℕ). kids c.as_slice.result.now ++ ms) (sym begun)
+    ap (λ (ns : List ℕ). kids ns ++ get_or (begun_of c.args.plan.now) (level + 1) []) (sym c.as_slice.ensures) ∙ ap (λ (ms : List ℕ). kids c.as_slice.result.now ++ ms) (sym c.begun_at-begun.ensures)
 
 pub numbers_kept-requires-clause-sets : goal.numbers_kept-requires-clause-sets
 numbers_kept-requires-clause-sets c =

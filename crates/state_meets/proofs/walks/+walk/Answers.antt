@@ -1,20 +1,17 @@
-use Rattle.std.proofs.Common.{◌≡◌, ◌<◌, ◌≤◌, ◌+◌, ℕ, Bool, List, ◌∷◌, length, get_or, subst, sym, ap, ◌∙◌, arith, IsErrAnd}
-use Rattle.std.proofs.lemmas.List.{length-map}
-use Rattle.plain_lists.specs.declared.faults.DiagFault.TheVariants.{Memory}
-use Rattle.diagram_defs.specs.Diagrams.{Diagram, IsSet, IsNumberFor, kid}
+use Rattle.std.proofs.Common.{◌≡◌, ◌<◌, ◌+◌, ℕ, Bool, List, ◌∷◌, length, get_or, subst, sym, ap, ◌∙◌, arith}
+use Rattle.diagram_defs.specs.Diagrams.{IsNumberFor}
 use Rattle.diagram_defs.specs.Parts.{GrowsBy, IsPartOf}
 use Rattle.diagram_defs.specs.Sets.{case_set}
 use Rattle.diagram_defs.proofs.PartLemmas.{GrowsBy_none, GrowsBy_step}
 use Rattle.diagram_defs.proofs.Growth.{IsNumberFor_same}
 use Rattle.diagram_defs.proofs.Steps.{AreKids_for, AreKidsSo, AreKidsSo_none, AreKidsSo_more, AreKidsSo_all, kids_number, kids_parts, value_parts}
-use Rattle.state_meets.specs.declared.faults.GatherFault.{GatherFault}
 use Rattle.state_meets.specs.declared.faults.GatherFault.TheVariants.{Table}
 use Rattle.state_meets.specs.Walks.{walk_set, AreSets}
 use Rattle.state_meets.specs.Gathered.{begun_of}
 use Rattle.state_meets.specs.Memos.{IsMemo, IsRemembered}
 use Rattle.state_meets.proofs.Meets.{AreRests_walk, AreSets_grow, walk_grows, walk_behind}
 use Rattle.state_meets.proofs.Reasons.{walk_passed, walk_memory}
-use Rattle.state_meets.proofs.Remembering.{IsPlan_grows, IsMemo_grows, remembered_grows}
+use Rattle.state_meets.proofs.Remembering.{IsPlan_grows, IsMemo_grows}
 use Rattle.state_meets.proofs.walks.+walk.Goals as goal
 use Rattle.state_meets.proofs.walks.+walk.Goals.{walk-After-case_of, walk-In_ok-n, walk_kids-After-walk}
 
@@ -134,7 +131,7 @@ behind_value t c rest =
     let inside : level < length mid.arities = subst (λ (arities : List ℕ). level < length arities) (sym g.arities) c.requires.level_in in
     let below : c.loop-v.v < get_or old.arities level 0 = let e = c.loop-v.invariant.end in omega arith in
     let low : c.loop-v.v < get_or mid.arities level 0 = subst (λ (arities : List ℕ). c.loop-v.v < get_or arities level 0) (sym g.arities) below in
-    let room : level + 1 < length begun = let e = c.requires.plan.count in let f = c.requires.level_in in let m = length-map c.args.plan.now.begun.items (λ ns. ns.items) in omega arith in
+    let room : level + 1 < length begun = let e = c.requires.plan.count in let f = c.requires.level_in in omega arith in
     let down = walk_behind mid which begun level numbers c.loop-v.v next rest inside low room c.in_ok-next.ensures.stands in
     let same = down ∙ walk_grows old mid which begun level numbers (c.loop-v.v ∷ rest) g c.requires.sets c.requires.plan.begun in
     subst (λ (l : ℕ). walk_set mid which begun l next rest ≡ walk_set old which begun level numbers (c.loop-v.v ∷ rest)) (sym c.in_ok-next.ensures.level_is) same

@@ -1,4 +1,4 @@
-use Rattle.std.proofs.Common.{ℕ, List, sym, ap, ◌∙◌, nat_eq}
+use Rattle.std.proofs.Common.{sym, ap, ◌∙◌, nat_eq}
 use Rattle.diagram_defs.specs.declared.quantifiers.Quantifier.{Quantifier}
 use Rattle.diagram_defs.specs.Quantified.{quantified}
 use Rattle.state_meets.proofs.walks.are_whole.Goals as goal

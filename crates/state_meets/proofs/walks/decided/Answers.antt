@@ -1,4 +1,4 @@
-use Rattle.std.proofs.Common.{◌≡◌, ℕ, List, Bool, [], ◌∷◌, get_or, length, sym, ap, ◌∙◌, subst}
+use Rattle.std.proofs.Common.{ℕ, List, Bool, get_or, sym, ◌∙◌, subst}
 use Rattle.diagram_defs.specs.Diagrams.{IsNumberFor}
 use Rattle.state_meets.specs.Walks.{walk_set, constant_set}
 use Rattle.state_meets.specs.Gathered.{begun_of}

@@ -1,5 +1,4 @@
-use Rattle.std.proofs.Common.{◌≡◌, ℕ, ◌+◌, Bool, List, if◌then◌else◌, nat_eq, length, ◌∙◌, sym, ap}
-use Rattle.std.proofs.lemmas.List.{length-map}
+use Rattle.std.proofs.Common.{ℕ, Bool, List, if◌then◌else◌, nat_eq, ◌∙◌, sym, ap}
 use Rattle.diagram_defs.specs.Quantified.{quantified}
 use Rattle.diagram_defs.proofs.Meaning.{level_of_one}
 use Rattle.state_meets.specs.Gathered.{begun_of}
@@ -11,7 +10,7 @@ returns-then-are_whole-clause-number c =
     let d = c.args.pool.now in
     let plan = c.args.plan.now in
     let at = c.if-tuple-level.true ∙ level_of_one d c.level.result c.level.ensures in
-    let count = length-map plan.begun.items (λ numbers. numbers.items) ∙ c.requires.plan.count in
+    let count = c.requires.plan.count in
     let whole = ap (λ (xs : List ℕ). quantified plan.which (λ n. nat_eq n 1) xs) (sym c.as_slice.ensures) ∙ sym c.are_whole.ensures ∙ c.if-are_whole.true in
     walk_end d c.allocator-alloc.ensures plan.which (begun_of plan) c.args.tuple.now.level c.args.tuple.now.numbers.items at count 1 (ap (λ (b : Bool). if b then 1 else 0) (sym whole))
 
@@ -20,6 +19,6 @@ returns-then-tuple-level-clause-number c =
     let d = c.args.pool.now in
     let plan = c.args.plan.now in
     let at = c.if-tuple-level.true ∙ level_of_one d c.level.result c.level.ensures in
-    let count = length-map plan.begun.items (λ numbers. numbers.items) ∙ c.requires.plan.count in
+    let count = c.requires.plan.count in
     let whole = ap (λ (xs : List ℕ). quantified plan.which (λ n. nat_eq n 1) xs) (sym c.as_slice.ensures) ∙ sym c.are_whole.ensures ∙ c.if-are_whole.false in
     walk_end d c.allocator-alloc.ensures plan.which (begun_of plan) c.args.tuple.now.level c.args.tuple.now.numbers.items at count 0 (ap (λ (b : Bool). if b then 1 else 0) (sym whole))

@@ -1,0 +1,3 @@
+mod BelowLemmas
+mod PortLemmas
+mod NameLemmas

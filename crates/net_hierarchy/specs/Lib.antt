@@ -1,0 +1,9 @@
+pub mod Kinds
+pub mod Firstness
+pub mod ByName
+pub mod Graph
+pub mod Search
+pub mod Ordered
+pub mod Under
+pub mod Sizes
+pub mod Depths

@@ -1,3 +1,9 @@
+pub mod RunLaws
+pub mod PieceLaws
+pub mod StreamLaws
+pub mod TokenLaws
+pub mod KeptLaws
+pub mod NameLaws
 pub mod LibraryClear
 pub mod LibraryEnds
 pub mod LibraryLaws

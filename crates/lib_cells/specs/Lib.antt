@@ -4,3 +4,8 @@ pub mod CellsMeant
 pub mod Joins
 pub mod LibraryFaults
 pub mod Worked
+pub mod PieceViews
+pub mod Streams
+pub mod TokenTests
+pub mod Kept
+pub mod KeptViews

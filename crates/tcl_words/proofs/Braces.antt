@@ -1,7 +1,10 @@
 -- Where a brace closes, and what a word in braces holds.
-use Rattle.std.proofs.Common.{◌≡◌, ◌≢◌, ℕ, zero, suc, Bool, true, false, List, [], ◌∷◌, ◌++◌, ◌==◌, Option, Some, None, refl, sym, ap, eqb-true, ne_eqb, subst, length, ◌<◌, arith}
+use Rattle.std.proofs.Common.{◌≡◌, ◌≢◌, ℕ, zero, suc, Bool, true, false, List, [], ◌∷◌, ◌++◌, ◌==◌, Option, Some, None, refl, sym, ◌∙◌, ap, eqb-true, ne_eqb, subst, length, ◌<◌, arith}
 use Rattle.std.proofs.lemmas.Bool.{eqb-false}
+use Rattle.std.proofs.lemmas.List.{append_assoc}
+use Rattle.std.proofs.lemmas.Option.{none-some, same_Some}
 use Rattle.tcl_words.specs.Pieces.{Piece, byte, escaped, carried}
+use Rattle.tcl_words.specs.Places.{depth_behind, kept_text, one_fewer}
 use Rattle.tcl_words.specs.Words.{IsBraced, closes, inner_closes, inner_opens, plain, kept, joined}
 
 -- a text and what is left behind it
@@ -97,3 +100,61 @@ braced_shorter depth text word left (kept d b rest behind inner h) =
     let less : length behind < length rest = braced_shorter d rest inner behind h in omega arith
 braced_shorter depth text word left (joined d rest behind inner h) =
     let less : length behind < length rest = braced_shorter d rest inner behind h in omega arith
+
+-- texts in front of each other
+pub after_after : (front more : List ℕ) (o : Found) → after front (after more o) ≡ after (front ++ more) o
+after_after front more None = refl
+after_after front more (Some found) = ap (λ text. Some (text, found.1)) (sym (append_assoc front more found.0))
+
+some_same : (d e : ℕ) → Some d ≡ Some e → d ≡ e
+some_same d e h = same_Some d e h
+
+-- a piece that doesn't close the word stands in it
+pub kept_in : (depth d : ℕ) (p : Piece) (rest : List Piece) → depth_behind depth p ≡ Some d → braced_text depth (p ∷ rest) ≡ after (kept_text p) (braced_text d rest)
+kept_in depth d (byte b) rest h = by (b == 123) refl (b == 125) refl h
+  where
+    inner : (n : ℕ) → one_fewer n ≡ Some d → b ≡ 125 → elim n as (λ _. Found) [ zero ↦ Some ([], rest) | suc k ↦ after (125 ∷ []) (braced_text k rest) ] ≡ after (b ∷ []) (braced_text d rest)
+    inner zero e is = absurd (none-some _ e)
+    inner (suc k) e is = rw (some_same k d e, is) refl
+
+    by : (t : Bool) → (b == 123) ≡ t → (u : Bool) → (b == 125) ≡ u
+        → elim t as (λ _. Option ℕ) [ true ↦ Some (suc depth) | false ↦ elim u as (λ _. Option ℕ) [ true ↦ one_fewer depth | false ↦ Some depth ] ] ≡ Some d
+        → elim t as (λ _. Found) [
+          | true ↦ after (123 ∷ []) (braced_text (suc depth) rest)
+          | false ↦ elim u as (λ _. Found)
+              [ true ↦ elim depth as (λ _. Found) [ zero ↦ Some ([], rest) | suc k ↦ after (125 ∷ []) (braced_text k rest) ] | false ↦ after (b ∷ []) (braced_text depth rest) ]
+        ] ≡ after (b ∷ []) (braced_text d rest)
+    by true e u f is = rw (sym (some_same (suc depth) d is), eqb-true b 123 e) refl
+    by false e true f is = inner depth is (eqb-true b 125 f)
+    by false e false f is = rw (some_same depth d is) refl
+kept_in depth d (escaped b) rest h = ap (λ n. after (92 ∷ b ∷ []) (braced_text n rest)) (some_same depth d h)
+kept_in depth d carried rest h = ap (λ n. after (32 ∷ []) (braced_text n rest)) (some_same depth d h)
+
+-- a piece that closes the word
+pub shut_at : (depth : ℕ) (p : Piece) (rest : List Piece) → depth_behind depth p ≡ None → braced_text depth (p ∷ rest) ≡ Some ([], rest)
+shut_at depth (byte b) rest h = by (b == 123) refl (b == 125) refl h
+  where
+    outer : (n : ℕ) → one_fewer n ≡ None → elim n as (λ _. Found) [ zero ↦ Some ([], rest) | suc k ↦ after (125 ∷ []) (braced_text k rest) ] ≡ Some ([], rest)
+    outer zero e = refl
+    outer (suc k) e = absurd (none-some _ (sym e))
+
+    by : (t : Bool) → (b == 123) ≡ t → (u : Bool) → (b == 125) ≡ u
+        → elim t as (λ _. Option ℕ) [ true ↦ Some (suc depth) | false ↦ elim u as (λ _. Option ℕ) [ true ↦ one_fewer depth | false ↦ Some depth ] ] ≡ None
+        → elim t as (λ _. Found) [
+          | true ↦ after (123 ∷ []) (braced_text (suc depth) rest)
+          | false ↦ elim u as (λ _. Found)
+              [ true ↦ elim depth as (λ _. Found) [ zero ↦ Some ([], rest) | suc k ↦ after (125 ∷ []) (braced_text k rest) ] | false ↦ after (b ∷ []) (braced_text depth rest) ]
+        ] ≡ Some ([], rest)
+    by true e u f is = absurd (none-some _ (sym is))
+    by false e true f is = outer depth is
+    by false e false f is = absurd (none-some _ (sym is))
+shut_at depth (escaped b) rest h = absurd (none-some _ (sym h))
+shut_at depth carried rest h = absurd (none-some _ (sym h))
+
+-- a text in which the word isn't closed has none
+pub never_closed : (text : List Piece) → braced_text 0 text ≡ None → (word : List ℕ) (left : List Piece) → ¬ IsBraced 0 text word left
+never_closed text e word left h = absurd (none-some _ (sym e ∙ braced_found 0 text word left h))
+
+-- a text in which it is closed
+pub closed_so : (text : List Piece) (word : List ℕ) (left : List Piece) → braced_text 0 text ≡ Some (word, left) → IsBraced 0 text word left
+closed_so text word left e = subst (IsRight 0 text) e (found_braced 0 text)

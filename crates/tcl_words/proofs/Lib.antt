@@ -2,8 +2,15 @@ pub mod Braces
 pub mod Cuts
 pub mod ListLaws
 pub mod Replacing
+pub mod ReplacingSteps
 pub mod ScriptLaws
 pub mod VariableNames
 pub mod WordReading
+pub mod WordSteps
+pub mod WordListSteps
+pub mod Onward
+pub mod LineSteps
 pub mod WorkedLists
 pub mod WorkedScripts
+pub mod PlaceLemmas
+pub mod TextTrees

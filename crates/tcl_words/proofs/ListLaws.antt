@@ -7,7 +7,8 @@ use Rattle.tcl_words.specs.ListWords.{PartsInto, HasListFault}
 use Rattle.tcl_words.specs.Pieces.{Piece}
 use Rattle.tcl_words.specs.Words.{Read, list, Variables, AreWords, over, gap, word, with_word}
 use Rattle.tcl_words.specs.Words.AreWords.{faulty}
-use Rattle.tcl_words.proofs.Cuts.{pieces_of, has_pieces, only_pieces}
+use Rattle.tcl_words.specs.Cuts.{pieces_of}
+use Rattle.tcl_words.proofs.Cuts.{has_pieces, only_pieces}
 use Rattle.tcl_words.proofs.WordReading.{read_words, only_words, words_so}
 
 -- what is read, without what is left
@@ -23,7 +24,7 @@ abbrev pub parting : List ℕ → Result (List (List ℕ)) TclFault
 parting text = words_in (read_list (pieces_of text))
 
 -- a list is read to its end
-to_end : (whole : List Piece) (vars : Variables) (text : List Piece) (read : Read (List (List ℕ))) → AreWords whole list vars text read
+pub to_end : (whole : List Piece) (vars : Variables) (text : List Piece) (read : Read (List (List ℕ))) → AreWords whole list vars text read
     → IfOk read (λ r. r.1 ≡ [])
 to_end whole vars text read (over [] e) = refl
 to_end whole vars text read (over (p ∷ rest) e) = absurd (false≢true e)

@@ -41,7 +41,7 @@ replaced whole manner vars stop (suc n) [] = Ok ([], [])
 replaced whole manner vars stop (suc n) (p ∷ rest) =
     elim (stop p) [ true ↦ Ok ([], p ∷ rest) | false ↦ read_piece whole manner vars (replaced whole manner vars stop n) p rest ]
 
-only_special : (manner : Manner) (b : ℕ) → is_replaced manner b ≡ true → (b == 36) ≡ false → b ≡ 91
+pub only_special : (manner : Manner) (b : ℕ) → is_replaced manner b ≡ true → (b == 36) ≡ false → b ≡ 91
 only_special command b f e = let or : ((b == 36) || (b == 91)) ≡ true = f in eqb-true b 91 (rw e at or)
 only_special list b f e = absurd (false≢true f)
 

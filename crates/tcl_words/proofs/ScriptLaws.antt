@@ -10,7 +10,8 @@ use Rattle.tcl_words.specs.ScriptWords.{is_backslash, is_carried_over, IsComment
 use Rattle.tcl_words.specs.ScriptWords.AreLines.{over as no_lines}
 use Rattle.tcl_words.specs.TclFaults.{line_of}
 use Rattle.tcl_words.specs.Words.{Read, command, Variables, is_stop, AreWords}
-use Rattle.tcl_words.proofs.Cuts.{pieces_of, has_pieces, only_pieces}
+use Rattle.tcl_words.specs.Cuts.{pieces_of}
+use Rattle.tcl_words.proofs.Cuts.{has_pieces, only_pieces}
 use Rattle.tcl_words.proofs.VariableNames.{is_byte-true}
 use Rattle.tcl_words.proofs.WordReading.{read_words, only_words, words_so, words_on}
 
@@ -67,17 +68,17 @@ comments (p ∷ rest) = by (is_byte 10 p) refl (comments rest)
         let here = goes e (is_backslash p) refl h in
         (here, goes_on (escaped 92) (p ∷ rest) (behind_comment (is_backslash p) rest) refl e here)
 
-comment_so : (text : List Piece) → IsComment text (behind_comment false text)
+pub comment_so : (text : List Piece) → IsComment text (behind_comment false text)
 comment_so text = (comments text).0
 
-comment_shorter : (text left : List Piece) → IsComment text left → length left ≤ length text
+pub comment_shorter : (text left : List Piece) → IsComment text left → length left ≤ length text
 comment_shorter text left over = omega arith
 comment_shorter text left (ends rest) = omega arith
 comment_shorter text left (carries rest behind h) = let less : length behind ≤ length rest = comment_shorter rest behind h in omega arith
 comment_shorter text left (goes_on p rest behind e f h) = let less : length behind ≤ length rest = comment_shorter rest behind h in omega arith
 
 -- the variables behind a line that gives one its text
-abbrev set_in : Variables → List (List ℕ) → Variables
+abbrev pub set_in : Variables → List (List ℕ) → Variables
 set_in vars (word ∷ name ∷ value ∷ []) = (name, value) ∷ vars
 set_in vars _ = vars
 
@@ -115,7 +116,7 @@ not_either false true h = absurd (false≢true h)
 not_either false false h = (refl, refl)
 
 -- what is shorter than the text of a command
-command_shorter : (whole : List Piece) (vars : Variables) (p : Piece) (rest : List Piece) (words : List (List ℕ)) (left : List Piece)
+pub command_shorter : (whole : List Piece) (vars : Variables) (p : Piece) (rest : List Piece) (words : List (List ℕ)) (left : List Piece)
     → begins_command (p ∷ rest) ≡ true
     → AreWords whole command vars (p ∷ rest) (Ok (words, left)) → length left < suc (length rest)
 command_shorter whole vars p rest words left begin h =
@@ -156,7 +157,7 @@ module _ (whole : List Piece) where
       rw (both.0, read_lines, both.1)
       (ap (read_command whole (read_lines whole n) v (p ∷ rest)) (only_words whole command v (p ∷ rest) (Err fault) w (suc (suc (length rest))) (omega arith)))
 
-  setting : (words : List (List ℕ)) → is_setting words ≡ true → (name : List ℕ) × (value : List ℕ) × (words ≡ codes "set" ∷ name ∷ value ∷ [])
+  pub setting : (words : List (List ℕ)) → is_setting words ≡ true → (name : List ℕ) × (value : List ℕ) × (words ≡ codes "set" ∷ name ∷ value ∷ [])
   setting [] h = absurd (false≢true h)
   setting (w ∷ []) h = absurd (false≢true h)
   setting (w ∷ name ∷ []) h = absurd (false≢true h)

@@ -1,9 +1,11 @@
 -- The variable that a `$` names, where it names one.
 use Rattle.std.proofs.Common.{◌≡◌, ◌≢◌, ℕ, Bool, true, false, ◌&&◌, cond, List, [], ◌∷◌, ◌++◌, map, ◌==◌, Some, None, refl, sym, ◌∙◌, ap, eqb-true, subst, length, ◌≤◌, arith}
 use Rattle.std.proofs.lemmas.Bool.{false≢true}
+use Rattle.std.proofs.lemmas.List.{nil_from_length}
 use Rattle.std.specs.List.{list_all}
 use Rattle.tcl_words.specs.Pieces.{Piece, byte, escaped, carried, is_byte, begins}
 use Rattle.tcl_words.specs.Words.{is_name_byte, is_name_piece, IsVariable, bare, braced}
+use Rattle.tcl_words.specs.Places.{IsFront}
 use Rattle.tcl_words.proofs.Braces.{Found}
 
 pub and_first : (a b : Bool) → (a && b) ≡ true → a ≡ true
@@ -25,12 +27,6 @@ name_front [] = ([], [])
 name_front (byte b ∷ rest) = elim (is_name_byte b) [ true ↦ (b ∷ (name_front rest).0, (name_front rest).1) | false ↦ ([], byte b ∷ rest) ]
 name_front (escaped b ∷ rest) = ([], escaped b ∷ rest)
 name_front (carried ∷ rest) = ([], carried ∷ rest)
-
--- the name is the longest front of the text
-record IsFront (text : List Piece) (name : List ℕ) (left : List Piece) : Type 0 where
-  split : text ≡ map byte name ++ left
-  each : list_all is_name_byte name ≡ true
-  stop : begins is_name_piece left ≡ false
 
 fronts : (text : List Piece) → IsFront text (name_front text).0 (name_front text).1
 fronts [] = record { split = refl; each = refl; stop = refl }
@@ -149,3 +145,55 @@ pub variable_shorter : (text : List Piece) (name : List ℕ) (left : List Piece)
 variable_shorter text name left (bare n behind is_name stop) = spelled_longer n behind
 variable_shorter text name left (braced n behind is_name) =
     let less : length (byte 125 ∷ behind) ≤ length (map byte n ++ byte 125 ∷ behind) = spelled_longer n (byte 125 ∷ behind) in omega arith
+
+-- the longest front is the one that is computed
+pub front_read : (text : List Piece) (name : List ℕ) (left : List Piece) → IsFront text name left → name_front text ≡ (name, left)
+front_read text name left f = ap name_front f.split ∙ front_is name left f.each f.stop
+
+bare_read : (text : List Piece) (name : List ℕ) (left : List Piece) → begins (is_byte 123) text ≡ false → IsFront text name left
+    → variable_of text ≡ bare_name name left
+bare_read [] name left h f = ap (λ (found : List ℕ × List Piece). bare_name found.0 found.1) (front_read [] name left f)
+bare_read (p ∷ rest) name left h f =
+    rw (h, variable_of) (ap (λ (found : List ℕ × List Piece). bare_name found.0 found.1) (front_read (p ∷ rest) name left f))
+
+braced_read : (rest : List Piece) (name : List ℕ) (left : List Piece) → IsFront rest name left → variable_of (byte 123 ∷ rest) ≡ braced_name name left
+braced_read rest name left f = ap (λ (found : List ℕ × List Piece). braced_name found.0 found.1) (front_read rest name left f)
+
+bare_some : (name : List ℕ) (left : List Piece) → name ≢ [] → bare_name name left ≡ Some (name, left)
+bare_some [] left h = absurd (h refl)
+bare_some (b ∷ name) left h = refl
+
+braced_some : (name : List ℕ) (left : List Piece) → name ≢ [] → braced_name name (byte 125 ∷ left) ≡ Some (name, left)
+braced_some [] left h = absurd (h refl)
+braced_some (b ∷ name) left h = refl
+
+braced_none : (name : List ℕ) (left : List Piece) → begins (is_byte 125) left ≡ false → braced_name name left ≡ None
+braced_none [] left h = refl
+braced_none (b ∷ name) [] h = refl
+braced_none (b ∷ name) (p ∷ left) h = rw (h, braced_name) refl
+
+-- a front without bytes names nothing
+pub no_bare_name : (text : List Piece) (name : List ℕ) (left : List Piece) → begins (is_byte 123) text ≡ false → IsFront text name left → length name ≡ 0
+    → (n : List ℕ) (l : List Piece) → ¬ IsVariable text n l
+no_bare_name text name left h f e = absent_variable text (bare_read text name left h f ∙ ap (λ n. bare_name n left) (nil_from_length name e))
+
+-- a front with bytes is a name
+pub is_bare_name : (text : List Piece) (name : List ℕ) (left : List Piece) → begins (is_byte 123) text ≡ false → IsFront text name left → name ≢ []
+    → IsVariable text name left
+is_bare_name text name left h f some_there = subst (IsNamed text) (bare_read text name left h f ∙ bare_some name left some_there) (found_named text)
+
+-- the same behind an opening brace
+pub no_braced_name : (text rest : List Piece) (name : List ℕ) (left : List Piece) → text ≡ byte 123 ∷ rest → IsFront rest name left → length name ≡ 0
+    → (n : List ℕ) (l : List Piece) → ¬ IsVariable text n l
+no_braced_name text rest name left is f e =
+    absent_variable text (ap variable_of is ∙ braced_read rest name left f ∙ ap (λ n. braced_name n left) (nil_from_length name e))
+
+pub no_closed_name : (text rest : List Piece) (name : List ℕ) (left : List Piece) → text ≡ byte 123 ∷ rest → IsFront rest name left
+    → begins (is_byte 125) left ≡ false → (n : List ℕ) (l : List Piece) → ¬ IsVariable text n l
+no_closed_name text rest name left is f unshut =
+    absent_variable text (ap variable_of is ∙ braced_read rest name left f ∙ braced_none name left unshut)
+
+pub is_braced_name : (text rest : List Piece) (name : List ℕ) (left behind : List Piece) → text ≡ byte 123 ∷ rest → IsFront rest name left → name ≢ []
+    → left ≡ byte 125 ∷ behind → IsVariable text name behind
+is_braced_name text rest name left behind is f some_there closed =
+    subst (IsNamed text) (ap variable_of is ∙ braced_read rest name left f ∙ ap (braced_name name) closed ∙ braced_some name behind some_there) (found_named text)

@@ -130,7 +130,7 @@ module _ (whole : List Piece) (manner : Manner) (vars : Variables) where
       by false = tt
 
   -- what is left behind a word is shorter
-  word_shorter : (text : List Piece) (read : Read (List ℕ)) → stops manner text ≡ false → IsWord whole manner vars text read
+  pub word_shorter : (text : List Piece) (read : Read (List ℕ)) → stops manner text ≡ false → IsWord whole manner vars text read
       → IfOk read (λ r. length r.1 < length text)
   word_shorter text read go (braced rest left w h) =
       closed_shorter w left (suc (length rest)) (let less : length left < length rest = braced_shorter 0 rest w left h in omega arith)

@@ -1,6 +1,11 @@
+pub mod Cuts
 pub mod Laws
+pub mod LineReadings
 pub mod ListWords
 pub mod Pieces
+pub mod Places
 pub mod ScriptWords
+pub mod Readings
+pub mod Settings
 pub mod TclFaults
 pub mod Words

@@ -1,0 +1,4 @@
+pub mod TooLarge
+pub mod Fronts
+pub mod Nearer
+pub mod Spelled

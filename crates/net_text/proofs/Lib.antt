@@ -5,3 +5,10 @@ pub mod RefusedTold
 pub mod WorkedNetlists
 pub mod WorkedTokens
 pub mod WorkedJobs
+pub mod RunLaws
+pub mod PieceLaws
+pub mod WordLaws
+pub mod StreamLaws
+pub mod ListLaws
+pub mod NestedLaws
+pub mod StoppedLaws

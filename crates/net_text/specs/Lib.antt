@@ -5,3 +5,13 @@ pub mod SecondDeclarations
 pub mod ModulesMeant
 pub mod NetlistFaults
 pub mod Worked
+pub mod Runs
+pub mod PieceViews
+pub mod TokenViews
+pub mod Streams
+pub mod Answers
+pub mod ParserViews
+pub mod ItemViews
+pub mod ModuleViews
+pub mod Stopped
+pub mod DeclarationViews

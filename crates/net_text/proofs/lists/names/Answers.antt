@@ -1,0 +1,18 @@
+use Rattle.std.proofs.Common.{ap, map, ◌∙◌, ◌++◌, ◌∷◌, []}
+use Rattle.std.proofs.lemmas.Result.{err_from_is_err_and}
+use Rattle.net_text.specs.NetlistGrammar.{name}
+use Rattle.net_text.specs.Answers.{named_view}
+use Rattle.net_text.proofs.ListLaws.{stopped_first, list_stops, list_read}
+use Rattle.net_text.proofs.lists.names.Goals as goal
+
+pub returns-in_err-first-clause-answers : goal.returns-in_err-first-clause-answers
+returns-in_err-first-clause-answers c =
+    let p = err_from_is_err_and c.from_residual.result c.from_residual.ensures.1 in
+    rw (p.1, p.2)
+    (stopped_first named_view (map named_view) (name) _ c.args.tokens.now c.name.new.tokens c.in_err-first.field-0.0 c.in_err-first.ensures.answers
+    (list_stops (name) c.args.tokens.now c.name.new.tokens))
+
+pub returns-clause-answers : goal.returns-clause-answers
+returns-clause-answers c =
+    list_read named_view (name) c.args.tokens.now c.name.new.tokens c.in_ok-first.first c.push.new.self c.more_names.result c.more_names.new.tokens
+    c.in_ok-first.ensures.answers (c.in_ok-push.ensures.ok ∙ ap (λ l. l ++ c.in_ok-first.first ∷ []) c.new-all.ensures) c.more_names.ensures.answers

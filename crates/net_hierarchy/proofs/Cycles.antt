@@ -8,9 +8,9 @@ use Rattle.pw_defs.specs.declared.design.Body.TheVariants.{Module as ModuleBody}
 use Rattle.design_defs.specs.DesignFaults.{Fault, FaultKind, IsAtOrAbove, IsFault, kind_number}
 use Rattle.design_defs.specs.DesignFaults.IsAtOrAbove.{here, above}
 use Rattle.design_defs.specs.Hierarchy.{Sources, Way, body_at, module_named}
-use Rattle.design_defs.proofs.Few.{place_of_member}
+use Rattle.list_defs.proofs.Few.{place_of_member}
 use Rattle.design_defs.proofs.Lookups.{IsInsideBy, at_outer}
-use Rattle.design_defs.proofs.OrderLemmas.{IsIn-slice_get}
+use Rattle.list_defs.proofs.Members.{IsIn-slice_get}
 use Rattle.net_hierarchy.specs.Graph.{AreInstsApart, HasCycle, HasUnknown, Holds, IsOrder, types_of}
 use Rattle.net_hierarchy.specs.Ordered.{HasFaultOf}
 use Rattle.net_hierarchy.proofs.NamesApart.{place_at, place_upto}

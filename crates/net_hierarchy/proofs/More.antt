@@ -8,10 +8,10 @@ use Rattle.list_defs.proofs.Members.{IsIn-map_from}
 use Rattle.pw_defs.specs.declared.design.Body.{Body}
 use Rattle.pw_defs.specs.declared.design.Body.TheVariants.{Module as ModuleBody}
 use Rattle.design_defs.specs.Bits.{IsSpot, Spot, range_in}
-use Rattle.design_defs.specs.DesignFaults.{HasMoreThan}
+use Rattle.list_defs.specs.Members.{HasMoreThan}
 use Rattle.design_defs.specs.Hierarchy.{IsInstance, Sources, Way, body_at, body_inside, module_named}
-use Rattle.design_defs.proofs.Few.{few, place_of_member}
-use Rattle.design_defs.proofs.OrderLemmas.{IsIn-slice_get}
+use Rattle.list_defs.proofs.Few.{few, place_of_member}
+use Rattle.list_defs.proofs.Members.{IsIn-slice_get}
 use Rattle.net_hierarchy.specs.Sizes.{AreOwnSpots, IsSized, one_each}
 use Rattle.net_hierarchy.specs.Under.{AllDiffer, IsUnder, Own, body_below}
 use Rattle.net_hierarchy.proofs.AllUnder.{spot_of_parts}

@@ -10,7 +10,7 @@ use Rattle.pw_defs.specs.declared.netlist.Module.{Module}
 use Rattle.design_defs.specs.DesignFaults.{Fault, FaultKind, IsFault, fault_cmp, kind_number, of_module}
 use Rattle.design_defs.specs.Hierarchy.{Sources}
 use Rattle.design_defs.proofs.BitOrders.{fault_total}
-use Rattle.design_defs.proofs.OrderLemmas.{not_before_itself}
+use Rattle.list_defs.proofs.Rising.{not_before_itself}
 use Rattle.net_hierarchy.specs.Firstness.{HasNoneBefore}
 
 pub same_or_less : (a b : ℕ) → a ≤ b → (a ≡ b) ⊎ (a < b)

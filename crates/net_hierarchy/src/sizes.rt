@@ -1,7 +1,7 @@
 //! How much there is below each module, added up from below, without going to each instance.
 ghost use Rattle.std.specs.Prelude.{◌≡◌, ◌+◌, ℕ, Some, min, map, sum, slice_index, set, IfOk, IsTrue, ◌↔◌};
 ghost use Rattle.design_defs.specs.Bits.{IsSpot};
-ghost use Rattle.design_defs.specs.DesignFaults.{HasMoreThan};
+ghost use Rattle.list_defs.specs.Members.{HasMoreThan};
 ghost use Rattle.design_defs.specs.Hierarchy.{IsInstance, Sources, module_named};
 ghost use Rattle.net_hierarchy.specs.Graph.{AreInstsApart, IsOrder, types_of};
 ghost use Rattle.net_hierarchy.specs.Sizes.{AreCounted, AreOwnSpots, AreSized, IsSized, one_each, part_in, row_in};

@@ -1,7 +1,7 @@
 use Rattle.std.proofs.Common.{◌≡◌, ◌<◌, ℕ, List, Some, [], ◌∷◌, ◌++◌, get_or, length, map, slice_get, take, sym, ap, ◌∙◌, subst, arith}
 use Rattle.std.proofs.lemmas.List.{length-map, length-set, take_more}
 use Rattle.std.proofs.lemmas.Option.{slice_get-get_or, slice_get_within}
-use Rattle.design_defs.proofs.OrderLemmas.{IsIn-slice_get}
+use Rattle.list_defs.proofs.Members.{IsIn-slice_get}
 use Rattle.pw_defs.specs.declared.netlist.Inst.{Inst}
 use Rattle.pw_defs.specs.declared.netlist.Module.{Module}
 use Rattle.design_defs.specs.Hierarchy.{type_of}

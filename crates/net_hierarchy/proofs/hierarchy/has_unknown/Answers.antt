@@ -1,7 +1,7 @@
 use Rattle.std.proofs.Common.{None, get_or, refl, subst, sym}
 use Rattle.std.proofs.lemmas.Option.{slice_get-get_or}
 use Rattle.list_defs.specs.Members.{IsIn}
-use Rattle.design_defs.proofs.OrderLemmas.{IsIn-slice_get}
+use Rattle.list_defs.proofs.Members.{IsIn-slice_get}
 use Rattle.net_hierarchy.proofs.hierarchy.has_unknown.Goals as goal
 
 pub returns-then-lacks_type : goal.returns-then-lacks_type

@@ -1,7 +1,7 @@
 use Rattle.std.proofs.Common.{◌≡◌, false, not, Option, None, Some, get_or, is_some, refl, subst, ap, ◌∙◌}
 use Rattle.std.proofs.lemmas.Option.{slice_get-get_or}
 use Rattle.list_defs.specs.Members.{IsIn}
-use Rattle.design_defs.proofs.OrderLemmas.{IsIn-slice_get}
+use Rattle.list_defs.proofs.Members.{IsIn-slice_get}
 use Rattle.pw_defs.specs.declared.design.Body.{Body}
 use Rattle.net_hierarchy.proofs.hierarchy.lacks_type.Goals as goal
 

@@ -2,7 +2,8 @@ use Rattle.std.proofs.Common.{◌≡◌, Bool, false, refl, sym, subst, ◌∙�
 use Rattle.std.specs.Bool.{IsTrue}
 use Rattle.std.proofs.lemmas.Bool.{false≢true}
 use Rattle.design_defs.specs.Bits.{IsSpot}
-use Rattle.design_defs.specs.DesignFaults.{HasMoreThan, IsTooLarge}
+use Rattle.list_defs.specs.Members.{HasMoreThan}
+use Rattle.design_defs.specs.DesignFaults.{IsTooLarge}
 use Rattle.design_defs.specs.Hierarchy.{IsInstance, Sources}
 use Rattle.net_hierarchy.specs.Depths.{HasDeeper, IsDeep}
 use Rattle.net_hierarchy.specs.Sizes.{IsSized, one_each}

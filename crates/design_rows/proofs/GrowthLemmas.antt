@@ -4,23 +4,12 @@ use Rattle.std.specs.List.{sum_by}
 use Rattle.std.proofs.lemmas.Bool.{cases_lt}
 use Rattle.std.proofs.lemmas.List.{get_or_append_left, get_or_at, length_push}
 use Rattle.std.proofs.lemmas.List.Sums.{sum_by-cons}
+use Rattle.list_defs.proofs.Longer.{each_more}
 use Rattle.design_rows.specs.declared.tables.KindRow.{KindRow}
 use Rattle.design_rows.specs.declared.tables.Rows.{Rows}
 use Rattle.design_rows.specs.Growth.{with_kind}
 use Rattle.design_rows.specs.Sound.{AreRows}
 use Rattle.design_rows.specs.View.{inst_at, no_instance, no_kind, size}
-
--- what holds of each of a list, and of one more, holds of each of the longer list
-each_more : {X : Type 0} (P : ℕ → X → Type 0) (xs : List X) (y d : X) → ((n : ℕ) → n < length xs → P n (get_or xs n d)) → P (length xs) y
-    → (n : ℕ) → n < length (xs ++ y ∷ []) → P n (get_or (xs ++ y ∷ []) n d)
-each_more P xs y d old new n within = by (cases_lt n (length xs))
-  where
-    by : (n < length xs) ⊎ (length xs ≤ n) → P n (get_or (xs ++ y ∷ []) n d)
-    by (inl early) = subst (P n) (sym (get_or_append_left xs (y ∷ []) d n early)) (old n early)
-    by (inr late) =
-        let last : length xs ≡ n = omega (arith, length_push xs y) in
-        let Q : ℕ → Type 0 = λ k. P k y in
-        subst (P n) (sym (get_or_at xs y [] d n last)) (subst Q last new)
 
 -- sums of two functions that agree at each of the list
 sum_same : {X : Type 0} (f g : X → ℕ) (d : X) (xs : List X) → ((k : ℕ) → k < length xs → f (get_or xs k d) ≡ g (get_or xs k d)) → sum_by f xs ≡ sum_by g xs

@@ -1,25 +1,11 @@
 -- A table that grows keeps what its numbers mean.
 use Rattle.std.proofs.Common.{◌≡◌, ◌≢◌, ℕ, zero, suc, ◌+◌, ◌≤◌, ◌<◌, Bool, true, false, ◌⊎◌, List, [], ◌∷◌, ◌++◌, Option, Some, None, length, get_or, refl, sym, ap, ◌∙◌, subst, inl, inr, arith, append-nil, append_assoc, length-append}
 use Rattle.std.specs.List.{slice_get}
-use Rattle.std.proofs.lemmas.Option.{none-some, slice_get_within}
+use Rattle.std.proofs.lemmas.Option.{slice_get_within}
+use Rattle.list_defs.proofs.Longer.{slice_get-append}
 use Rattle.diagram_defs.specs.Diagrams.{Shape, Diagram, kid, member, IsKid, AreKids, IsNode, AreNodes, IsPool, IsSet, IsNumberFor, Grows}
 use Rattle.diagram_defs.specs.Diagrams.IsKid.{empty, whole, node}
 use Rattle.diagram_defs.proofs.Meaning.{kid-node, member-empty, IsKid-kid, IsKid-more}
-
-pub slice_get-append : {X : Type 0} (xs ys : List X) (i : ℕ) (x : X) → slice_get xs i ≡ Some x → slice_get (xs ++ ys) i ≡ Some x
-slice_get-append [] ys i x e = absurd (none-some x e)
-slice_get-append (y ∷ xs) ys zero x e = e
-slice_get-append (y ∷ xs) ys (suc i) x e = slice_get-append xs ys i x e
-
-pub slice_get_front : {X : Type 0} (xs ys : List X) (i : ℕ) (x : X) → i < length xs → slice_get (xs ++ ys) i ≡ Some x → slice_get xs i ≡ Some x
-slice_get_front [] ys i x inside e = absurd (omega arith)
-slice_get_front (y ∷ xs) ys zero x inside e = e
-slice_get_front (y ∷ xs) ys (suc i) x inside e = slice_get_front xs ys i x (omega arith) e
-
-pub slice_get_last : {X : Type 0} (xs : List X) (y : X) (i : ℕ) → i ≡ length xs → slice_get (xs ++ y ∷ []) i ≡ Some y
-slice_get_last [] y i e = ap (λ (k : ℕ). slice_get (y ∷ []) k) e
-slice_get_last (x ∷ xs) y zero e = absurd (omega arith)
-slice_get_last (x ∷ xs) y (suc i) e = slice_get_last xs y i (omega arith)
 
 module _ (arities : List ℕ) (nodes more : List Shape) where
   pub IsKid-append : (places level n : ℕ) → IsKid arities nodes places level n → IsKid arities (nodes ++ more) places level n

@@ -10,7 +10,8 @@ use Rattle.diagram_defs.specs.Diagrams.IsKid.{node}
 use Rattle.diagram_defs.specs.Parts.{IsPartOf, AddsParts, GrowsBy, LacksPart}
 use Rattle.diagram_defs.specs.Answers.{IsFullWithout, IsCause}
 use Rattle.diagram_defs.proofs.Meaning.{same_tests}
-use Rattle.diagram_defs.proofs.Growth.{slice_get_front, slice_get-append, length_grows, member_grows, Grows_refl, Grows_trans, IsNumberFor_same}
+use Rattle.list_defs.proofs.Longer.{slice_get-append, slice_get_front}
+use Rattle.diagram_defs.proofs.Growth.{length_grows, member_grows, Grows_refl, Grows_trans, IsNumberFor_same}
 
 -- a nonempty set is a part of itself
 pub IsPartOf_itself : (levels base : ℕ) (set part : List ℕ → Bool) → base < levels → ((rest : List ℕ) → part rest ≡ set rest) → (rest : List ℕ) × (part rest ≡ true) → IsPartOf levels base set base part

@@ -8,21 +8,6 @@ use Rattle.list_defs.specs.Members.{all_differ, place_of, same_name}
 use Rattle.list_defs.proofs.NameLemmas.{is_some-place_of, same_name-equal, same_name-symmetric}
 use Rattle.form_intent.proofs.ListLemmas.{and_first, and_last, or_first, or_last}
 
--- a place is within the list
-pub place_of-within : {X : Type 0} (test : X → Bool) (xs : List X) (n : ℕ) → place_of test xs ≡ Some n → n < length xs
-place_of-within test [] n h = cc
-place_of-within test (x ∷ xs) n h = by (test x) (place_of test xs) (place_of-within test xs) h
-  where
-    by : (b : Bool) (o : Option ℕ) → ((m : ℕ) → o ≡ Some m → m < length xs) → cond b (Some 0) (option_map suc o) ≡ Some n → n < length (x ∷ xs)
-    by true o rest h =
-        let here : 0 ≡ n = cc in
-        omega arith
-    by false None rest h = cc
-    by false (Some m) rest h =
-        let behind : suc m ≡ n = cc in
-        let within : m < length xs = rest m refl in
-        omega arith
-
 module _ {A : Type 0} (x : List ℕ) (so_far : List ℕ → List A) (more : List A) where
   -- what comes to the items of the name alone
   abbrev with_more : List ℕ → List A

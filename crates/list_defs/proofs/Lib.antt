@@ -5,3 +5,4 @@ pub mod Rising
 pub mod OneList
 pub mod InOrder
 pub mod OneFound
+pub mod Longer

@@ -1,5 +1,5 @@
 -- Lemmas on names, on places in a list, and on lists in which no two names are the same.
-use Rattle.std.proofs.Common.{◌≡◌, ℕ, zero, suc, Bool, true, false, not, ◌&&◌, ◌||◌, cond, List, [], ◌∷◌, ◌++◌, Option, None, Some, slice_get, refl, sym, ap, subst, ◌∙◌, inl, inr, is_some, ◌+◌, ltb, length, map, arith}
+use Rattle.std.proofs.Common.{◌≡◌, ℕ, zero, suc, Bool, true, false, not, ◌&&◌, ◌||◌, cond, List, [], ◌∷◌, ◌++◌, Option, None, Some, slice_get, refl, sym, ap, subst, ◌∙◌, inl, inr, is_some, ◌+◌, ◌<◌, ltb, length, map, arith}
 use Rattle.std.proofs.lemmas.Bool.{false≢true, true≢false, lt-ltb, le-ltb, ltb-true, ltb-false}
 use Rattle.std.proofs.lemmas.List.Folds.{list_any-append}
 use Rattle.std.specs.List.{list_any, position, position_or_len}
@@ -25,6 +25,21 @@ is_some-place_of test (x ∷ xs) = by (test x) (place_of test xs) (is_some-place
     by true o h = refl
     by false None h = h
     by false (Some n) h = h
+
+-- a place is within the list
+pub place_of-within : {X : Type 0} (test : X → Bool) (xs : List X) (n : ℕ) → place_of test xs ≡ Some n → n < length xs
+place_of-within test [] n h = cc
+place_of-within test (x ∷ xs) n h = by (test x) (place_of test xs) (place_of-within test xs) h
+  where
+    by : (b : Bool) (o : Option ℕ) → ((m : ℕ) → o ≡ Some m → m < length xs) → cond b (Some 0) (option_map suc o) ≡ Some n → n < length (x ∷ xs)
+    by true o rest h =
+        let here : 0 ≡ n = cc in
+        omega arith
+    by false None rest h = cc
+    by false (Some m) rest h =
+        let behind : suc m ≡ n = cc in
+        let within : m < length xs = rest m refl in
+        omega arith
 
 -- the place is what std's `position` answers
 pub place_of-position : {X : Type 0} (test : X → Bool) (xs : List X) → place_of test xs ≡ position test xs

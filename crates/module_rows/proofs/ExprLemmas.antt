@@ -14,7 +14,8 @@ use Rattle.module_rows.specs.Growth.{Extends, Grows, HasExprs, IsConnected, IsEx
 use Rattle.module_rows.specs.Leaves.{leaves}
 use Rattle.module_rows.specs.Sound.{AreTerms, IsExprRow, IsLeafRow, IsSpan, IsSpanned, leaf_of, leaves_of}
 use Rattle.module_rows.specs.View.{connected, expr_at, last_of, name_at, open_after, opened}
-use Rattle.module_rows.proofs.TermLemmas.{after_kept, after_push, each_more, extends_length, extends_same, extends_trans, leaves_bit, leaves_const, leaves_join, leaves_kept, leaves_part, leaves_whole, row_kept, span_kept}
+use Rattle.list_defs.proofs.Longer.{each_more}
+use Rattle.module_rows.proofs.TermLemmas.{after_kept, after_push, extends_length, extends_same, extends_trans, leaves_bit, leaves_const, leaves_join, leaves_kept, leaves_part, leaves_whole, row_kept, span_kept}
 
 abbrev pub grows_trans : (a b c : Terms) → Grows a b → Grows b c → Grows a c
 grows_trans a b c first second = record {

@@ -59,18 +59,6 @@ early_part row more from end rises within =
 pub extends_part : {X : Type 0} (xs ys : List X) (from end : ℕ) → Extends xs ys → from ≤ end → end ≤ length xs → slice_range ys from end ≡ slice_range xs from end
 extends_part xs ys from end (more, is) rises within = ap (λ all. slice_range all from end) is ∙ early_part xs more from end rises within
 
--- what holds of each of a list by its number, and of one more, holds of each of the longer list
-pub each_more : {X : Type 0} (P : ℕ → X → Type 0) (xs : List X) (y d : X) → ((n : ℕ) → n < length xs → P n (get_or xs n d)) → P (length xs) y
-    → (n : ℕ) → n < length (xs ++ y ∷ []) → P n (get_or (xs ++ y ∷ []) n d)
-each_more P xs y d old new n within = by (cases_lt n (length xs))
-  where
-    by : (n < length xs) ⊎ (length xs ≤ n) → P n (get_or (xs ++ y ∷ []) n d)
-    by (inl early) = subst (P n) (sym (get_or_append_left xs (y ∷ []) d n early)) (old n early)
-    by (inr late) =
-        let last : length xs ≡ n = omega (arith, length_push xs y) in
-        let Q : ℕ → Type 0 = λ k. P k y in
-        subst (P n) (sym (get_or_at xs y [] d n last)) (subst Q last new)
-
 -- what one list of symbols says, a longer one says too
 module _ (old new : List (List ℕ)) (longer : Extends old new) where
   pub name_kept : (s : ℕ) → s < length old → name_at new s ≡ name_at old s

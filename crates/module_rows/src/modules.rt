@@ -128,6 +128,13 @@ impl Modules {
         self.rows.conn(holder, inst, conn)
     }
 
+    /// How many expressions there are, in all modules.
+    pub fn exprs(&self) -> u32
+        ensures { result ≡ length self.now.exprs }
+    {
+        self.rows.terms.exprs.len()
+    }
+
     /// What is read of an expression.
     pub fn expr(&self, expr: u32) -> ExprHead
         requires { expr < length self.now.exprs }

@@ -4,20 +4,11 @@ use Rattle.std.specs.Option.{option_or}
 use Rattle.std.specs.List.{list_any}
 use Rattle.list_defs.specs.Members.{place_of, same_name}
 use Rattle.std.proofs.lemmas.Bool.{false≢true, true≢false}
-use Rattle.list_defs.proofs.NameLemmas.{is_some-place_of, same_name-equal}
-use Rattle.diagram_defs.proofs.Growth.{slice_get-append, slice_get_last}
+use Rattle.list_defs.proofs.NameLemmas.{is_some-place_of, place_of-within, same_name-equal}
+use Rattle.list_defs.proofs.Longer.{slice_get-append, slice_get_last}
 use Rattle.design_defs.proofs.WalkEnds.{there_within}
 use Rattle.net_hierarchy.specs.Kinds.{AreFirsts, first_place}
 use Rattle.net_hierarchy.specs.declared.firsts.Firsts.{Firsts}
-
-pub place_of-within : {X : Type 0} (test : X → Bool) (xs : List X) (n : ℕ) → place_of test xs ≡ Some n → n < length xs
-place_of-within test [] n h = cc
-place_of-within test (x ∷ xs) n h = by (test x) (place_of test xs) refl (place_of-within test xs) h
-  where
-    by : (b : Bool) (o : Option ℕ) → place_of test xs ≡ o → ((m : ℕ) → place_of test xs ≡ Some m → m < length xs) → cond b (Some 0) (option_map suc o) ≡ Some n → n < suc (length xs)
-    by true o e rest h = let here : 0 ≡ n = cc in omega arith
-    by false None e rest h = cc
-    by false (Some m) e rest h = let behind : suc m ≡ n = cc in let below = rest m e in omega arith
 
 -- one more at the end is found there, where nothing before it is
 pub place_of-push : {X : Type 0} (test : X → Bool) (xs : List X) (x : X)

@@ -6,7 +6,7 @@ use Rattle.pw_defs.specs.declared.design.Body.{Body}
 use Rattle.pw_defs.specs.declared.design.Body.TheVariants.{Module as ModuleBody, Cell as CellBody, Model as ModelBody}
 use Rattle.list_defs.specs.Members.{IsIn}
 use Rattle.list_defs.proofs.Members.{IsIn-append_cases, IsIn-append_left, IsIn-append_right}
-use Rattle.diagram_defs.proofs.Growth.{slice_get-append, slice_get_front, slice_get_last}
+use Rattle.list_defs.proofs.Longer.{slice_get-append, slice_get_front, slice_get_last}
 use Rattle.list_defs.proofs.Members.{IsIn-slice_get}
 use Rattle.net_hierarchy.specs.Graph.{HasCycle, Holds, IsOrder, Leads, Types}
 use Rattle.net_hierarchy.specs.Search.{AreDoneTo, IsSearch, item_at, item_of, mark_at, mark_of}

@@ -23,7 +23,7 @@ use Rattle.net_hierarchy.specs.Sizes.{AreCounted, AreSized, HasBody, IsSized, or
 use Rattle.net_hierarchy.specs.Under.{AllDiffer, AreUnder, HasUnder, IsUnder, Own, body_below}
 use Rattle.net_hierarchy.specs.declared.sizes.Counts.{Counts}
 use Rattle.net_hierarchy.proofs.AllUnder.{AllDiffer-map, AreLists, all_under, below_first, here_at, inside_at, one_here, snoc_view, spot_of_parts, under_module}
-use Rattle.net_hierarchy.proofs.FirstPlaces.{place_of-within}
+use Rattle.list_defs.proofs.NameLemmas.{place_of-within}
 use Rattle.net_hierarchy.proofs.Places.{same_or_not}
 use Rattle.net_hierarchy.proofs.Ways.{holds_by, line_of_row}
 

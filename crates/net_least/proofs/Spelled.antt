@@ -2,7 +2,7 @@
 use Rattle.std.proofs.Common.{◌≡◌, ◌≢◌, ℕ, List, [], ◌∷◌, ◌++◌, Option, None, Some, length, reverse, slice_get, refl, sym, ap, ◌∙◌, subst}
 use Rattle.std.proofs.lemmas.List.{reverse-append, reverse-reverse}
 use Rattle.std.proofs.lemmas.Option.{same_Some}
-use Rattle.diagram_defs.proofs.Growth.{slice_get-append}
+use Rattle.list_defs.proofs.Longer.{slice_get-append}
 use Rattle.design_defs.specs.Hierarchy.{Way, way_cmp}
 use Rattle.net_least.specs.Links.{IsSpelled, IsWalked, IsWay, by_text, ends, slashed}
 use Rattle.net_least.specs.Nearest.{AreNamed}

@@ -5,7 +5,8 @@ use Rattle.std.proofs.lemmas.List.{length_push}
 use Rattle.std.proofs.lemmas.Bool.{cases_lt}
 use Rattle.std.proofs.lemmas.Option.{slice_get_within, same_Some}
 use Rattle.diagram_defs.specs.Diagrams.{Shape, Diagram, HasKid, IsNode, AreNodes, AreSharp, IsPool, Grows}
-use Rattle.diagram_defs.proofs.Growth.{slice_get_front, slice_get_last, IsKid-append}
+use Rattle.list_defs.proofs.Longer.{slice_get_front, slice_get_last}
+use Rattle.diagram_defs.proofs.Growth.{IsKid-append}
 use Rattle.state_diagrams.specs.Nodes.{IsAbsent, IsPut}
 
 IsNode-append : (arities : List ℕ) (nodes more : List Shape) (places : ℕ) (shape : Shape) → IsNode arities nodes places shape → IsNode arities (nodes ++ more) places shape

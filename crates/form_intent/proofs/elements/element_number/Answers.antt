@@ -1,7 +1,7 @@
 -- A place is below the number of names, which a `u32` counts.
 use Rattle.std.proofs.Common.{◌∙◌, sym, arith}
 use Rattle.list_defs.specs.Members.{same_name}
-use Rattle.form_intent.proofs.PlaceLemmas.{place_of-within}
+use Rattle.list_defs.proofs.NameLemmas.{place_of-within}
 use Rattle.form_intent.proofs.elements.element_number.Goals as goal
 
 pub overflow_add-result : goal.overflow_add-result

@@ -5,7 +5,7 @@ use Rattle.std.proofs.lemmas.List.{append-nil, get_or-map, length-map, map-set}
 use Rattle.std.specs.List.{list_any}
 use Rattle.std.specs.Option.{option_map, is_some}
 use Rattle.list_defs.specs.Members.{all_differ, place_of, same_name}
-use Rattle.list_defs.proofs.NameLemmas.{is_some-place_of, same_name-equal, same_name-symmetric}
+use Rattle.list_defs.proofs.NameLemmas.{is_some-place_of, place_of-within, same_name-equal, same_name-symmetric}
 use Rattle.form_intent.proofs.ListLemmas.{and_first, and_last, or_first, or_last}
 
 module _ {A : Type 0} (x : List ℕ) (so_far : List ℕ → List A) (more : List A) where

@@ -24,7 +24,7 @@ use Rattle.form_intent.specs.Fits.{script_fits}
 use Rattle.form_intent.specs.Intent.{IsIntentOf, domain_with, supply_names}
 use Rattle.form_intent.specs.Sound.{IsSound, NamesBelow}
 use Rattle.form_intent.proofs.FitLemmas.{has_net}
-use Rattle.form_intent.proofs.PlaceLemmas.{place_of-within}
+use Rattle.list_defs.proofs.NameLemmas.{place_of-within}
 use Rattle.form_intent.proofs.ValueLemmas.{IsRising-values_of}
 
 -- each part of a condition speaks of its supply

@@ -3,7 +3,8 @@ use Rattle.std.proofs.Common.{◌≡◌, ◌∙◌, List, ◌++◌, Vec, Global,
 use Rattle.line_forms.specs.declared.script_lines.StateWords.{StateWords}
 use Rattle.list_defs.specs.Members.{place_of, same_name}
 use Rattle.form_intent.specs.Script.{states_on}
-use Rattle.form_intent.proofs.PlaceLemmas.{place_of-within, map-set-place_of, map-absent}
+use Rattle.form_intent.proofs.PlaceLemmas.{map-set-place_of, map-absent}
+use Rattle.list_defs.proofs.NameLemmas.{place_of-within}
 use Rattle.form_intent.proofs.states.put_states.Goals as goal
 
 abbrev states_in : Vec (Bor StateWords) Global → List StateWords

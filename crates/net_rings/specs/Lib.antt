@@ -1,0 +1,4 @@
+pub mod Fed
+pub mod Peeled
+pub mod Least
+pub mod Search

@@ -1,3 +1,5 @@
 mod BelowLemmas
 mod PortLemmas
 mod NameLemmas
+mod WayLemmas
+mod HereLemmas

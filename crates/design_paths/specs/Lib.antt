@@ -1,1 +1,3 @@
 pub mod PortNames
+pub mod BitNames
+pub mod Ways

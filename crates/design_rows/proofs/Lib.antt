@@ -3,3 +3,4 @@ pub mod Paths
 pub mod RowLemmas
 pub mod GrowthLemmas
 pub mod WorkedRows
+pub mod ChildLemmas

@@ -44,6 +44,7 @@ rows insts feeds = record {
       ∷ record { body = Module 1; first = 6; size = 2 } ∷ [];
   places = places;
   insts = insts;
+  children = 1 ∷ 3 ∷ 2 ∷ 4 ∷ [];
   feeds = feeds;
 }
 

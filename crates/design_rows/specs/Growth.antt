@@ -25,6 +25,7 @@ pub record HaveSameKinds (old new : Rows) : Type 0 where
   pub names : new.names ≡ old.names
   pub kinds : new.kinds ≡ old.kinds
   pub places : new.places ≡ old.places
+  pub children : new.children ≡ old.children
 
 -- there is one instance more, whose bits nothing feeds yet
 pub record HasInstance (old new : Rows) (row : InstanceRow) : Type 0 where

@@ -1,3 +1,4 @@
 pub mod View
+pub mod Children
 pub mod Sound
 pub mod Growth

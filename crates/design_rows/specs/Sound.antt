@@ -3,6 +3,7 @@ use Rattle.std.specs.Prelude.{◌≡◌, ℕ, ◌+◌, ◌<◌, ◌≤◌, lengt
 use Rattle.std.specs.List.{sum_by}
 use Rattle.design_defs.specs.Sound.{IsSoundDesign}
 use Rattle.design_rows.specs.declared.tables.Rows.{Rows}
+use Rattle.design_rows.specs.Children.{HasChildren, HasNames}
 use Rattle.design_rows.specs.View.{design_of, inst_at, kind_at, place_at, place_name, size}
 
 -- Each number is that of a row that there is, what an instance is inside comes before it, and the bits of the instances
@@ -17,9 +18,11 @@ pub record AreRows (r : Rows) : Type 0 where
   pub all : length r.feeds.items ≡ sum_by (size r) r.insts
   pub few : length r.feeds.items ≤ 4294967295
 
--- rows of a sound design
+-- rows of a sound design, whose instances have names and are in order by what they are inside and by name
 pub record IsSound (r : Rows) : Type 0 where
   pub rows : AreRows r
+  pub children : HasChildren r
+  pub names : HasNames r
   pub design : IsSoundDesign (design_of r)
 
 -- the instance owns the bit

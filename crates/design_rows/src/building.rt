@@ -25,6 +25,7 @@ impl Rows {
             kinds: List::new(alloc),
             places: List::new(alloc),
             insts: List::new(alloc),
+            children: List::new(alloc),
             feeds: Vec::new(alloc),
         }
     }

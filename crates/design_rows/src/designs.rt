@@ -1,13 +1,14 @@
 //! A sound design, stored in rows.
-ghost use Rattle.std.specs.Prelude.{◌≡◌, ◌<◌, ◌++◌, Some, length, slice_get, IfSome, OnOk};
+ghost use Rattle.std.specs.Prelude.{◌≡◌, ◌<◌, ◌++◌, Some, length, slice_get, IfSome, MatchOption, OnOk};
 ghost use Rattle.std.specs.Option.{option_and_then, option_map};
 ghost use Rattle.design_defs.specs.Sound.{IsSoundDesign};
 ghost use Rattle.design_defs.specs.Walks.{feeder_at, next_of};
+ghost use Rattle.design_rows.specs.Children.{HasNamesInside, HasNoneInside, IsNamedInside};
 ghost use Rattle.design_rows.specs.Sound.{IsSound};
 ghost use Rattle.design_rows.specs.View.{design_of};
 
-use crate::reads;
 use crate::tables::Rows;
+use crate::{children, reads};
 use pw_defs::{Body, Bytes, Cells, Feeder, List, Model as SoftMacro, Module, PortBit};
 use std::alloc::AllocError;
 use std::marker::Model;
@@ -48,6 +49,13 @@ impl Design {
     /// Every design of this type is sound.
     pub fn sound(&self)
         ensures { IsSoundDesign self.now }
+    {
+        let _ = &self.rows;
+    }
+
+    /// Whatever is inside an instance has a name there.
+    pub fn names(&self)
+        ensures { HasNamesInside self.now }
     {
         let _ = &self.rows;
     }
@@ -102,6 +110,14 @@ impl Design {
         ensures { option_map (λ i. i.parent) (slice_get self.now.insts n) ≡ Some result }
     {
         reads::parent(&self.rows, n)
+    }
+
+    /// The instance that is inside another one and has this name there.
+    pub fn child(&self, outer: u32, name: &[u8]) -> Option<u32>
+        requires { outer < length self.now.insts }
+        ensures { MatchOption result (HasNoneInside self.now outer name.now) (λ n. IsNamedInside self.now outer name.now n) }
+    {
+        children::child(&self.rows, outer, name)
     }
 
     /// Appends the path of an instance.

@@ -6,6 +6,7 @@
 #![tactic(auto)]
 
 mod building;
+mod children;
 mod designs;
 pub mod reads;
 mod tables;

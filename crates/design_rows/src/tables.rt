@@ -48,5 +48,7 @@ pub struct Rows {
     pub kinds: List<KindRow>,
     pub places: List<PlaceRow>,
     pub insts: List<InstanceRow>,
+    /// The instances but the first, by what they are inside and then by name.
+    pub children: List<u32>,
     pub feeds: Vec<Feed>,
 }

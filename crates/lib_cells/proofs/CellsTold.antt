@@ -48,7 +48,7 @@ told_place (Some a) (Some b) = told_by digit (Some a) (Some b) (λ e. cc) (told_
     digit None = []
     digit (Some n) = n ∷ []
 
-pin_of_parts : (a b : Pin) → a.name ≡ b.name → a.dir ≡ b.dir → a ≡ b
+pub pin_of_parts : (a b : Pin) → a.name ≡ b.name → a.dir ≡ b.dir → a ≡ b
 pin_of_parts a b name dir = λ i. record { name = name i; dir = dir i }
 
 told_pin : (a b : Pin) → IsTold (a ≡ b)
@@ -70,7 +70,7 @@ told_pins (p ∷ a) (q ∷ b) = by (told_pin p q) (told_pins a b)
     by (inl first) (inr n) = inr (λ e. n (let rest : a ≡ b = cc in rest))
     by (inr n) rest = inr (λ e. n (let first : p ≡ q = cc in first))
 
-cell_of_parts : (a b : Cell) → a.name ≡ b.name → a.pins ≡ b.pins → a.iso ≡ b.iso → a.shift ≡ b.shift → a.through ≡ b.through → a.enable ≡ b.enable → a ≡ b
+pub cell_of_parts : (a b : Cell) → a.name ≡ b.name → a.pins ≡ b.pins → a.iso ≡ b.iso → a.shift ≡ b.shift → a.through ≡ b.through → a.enable ≡ b.enable → a ≡ b
 cell_of_parts a b name pins iso shift through enable =
     λ i. record { name = name i; pins = pins i; iso = iso i; shift = shift i; through = through i; enable = enable i }
 

@@ -1,23 +1,28 @@
--- Loops over entries of which less is kept than the grammar reads.
-use Rattle.std.proofs.Common.{◌≡◌, ℕ, zero, suc, Bool, true, false, List, [], ◌∷◌, ◌++◌, map, Option, Some, None, Result, Ok, Err, refl, sym, ap, ◌∙◌, append_assoc}
-use Rattle.std.specs.Option.{option_map}
-use Rattle.std.proofs.lemmas.List.{append-nil, map-append}
+-- Loops over phrases in a row, of which less is kept than the grammar reads.
+use Rattle.std.proofs.Common.{◌≡◌, ℕ, zero, suc, Bool, true, false, List, [], ◌∷◌, ◌++◌, ◌||◌, map, Option, Some, None, Result, Ok, Err, refl, sym, ap, ◌∙◌, if◌then◌else◌}
 use Rattle.text_defs.specs.Grammar.{Grammar, Reading, read, next, passes}
 use Rattle.text_defs.specs.Phrases.{many}
 use Rattle.text_defs.specs.Tokens.{Token}
-use Rattle.text_streams.specs.Answers.{Gives, with_front}
+use Rattle.text_streams.specs.Answers.{Answers, with_front}
 use Rattle.text_streams.specs.declared.stops.Stop.{Stop}
 use Rattle.text_streams.specs.declared.stops.Stop.TheVariants as stops
 use Rattle.text_streams.proofs.AnswerLaws.{many_on, many_fails, many_stops}
 use Rattle.lib_cells.specs.LibraryWords.{LibraryClass}
-use Rattle.lib_cells.specs.Groups.{entry, present}
-use Rattle.lib_cells.specs.Kept.{attribute_entry, passed, with_present}
+use Rattle.lib_cells.specs.Groups.{entry}
+use Rattle.lib_cells.specs.Kept.{Shows, are_some, attribute_entry, nothing, seen}
+use Rattle.lib_cells.specs.Marks.{lone}
 
--- a parser that stops where another reading does
-pub stopped_as : {K X Y A B : Type 0} (v : X → A) (view : Y → B) (first : Reading K A) (new : List K) (reading : Reading K B) (e : Stop)
-    → Gives v first (Err e) new → (first ≡ Err new → reading ≡ Err new) → Gives view reading (Err e) new
-stopped_as v view first new reading stops.Fault h k = k h
-stopped_as v view first new reading stops.Memory h k = tt
+-- a parser that stops where another one does
+pub stopped_as : {K X Y A B C D : Type 0} (v : X → C) (f : A → C) (view : Y → D) (h : B → D) (phrase : Grammar K A) (whole : Grammar K B) (tokens old new : List K) (e : Stop)
+    → Shows v f phrase tokens (Err e) new → (read phrase tokens ≡ Err new → read whole old ≡ Err new) → Shows view h whole old (Err e) new
+stopped_as v f view h phrase whole tokens old new stops.Fault is k = k is
+stopped_as v f view h phrase whole tokens old new stops.Memory is k = tt
+
+-- the same behind a parser that keeps all
+pub stopped_by : {K X Y A B D : Type 0} (v : X → A) (view : Y → D) (h : B → D) (phrase : Grammar K A) (whole : Grammar K B) (tokens old new : List K) (e : Stop)
+    → Answers v phrase tokens (Err e) new → (read phrase tokens ≡ Err new → read whole old ≡ Err new) → Shows view h whole old (Err e) new
+stopped_by v view h phrase whole tokens old new stops.Fault is k = k is
+stopped_by v view h phrase whole tokens old new stops.Memory is k = tt
 
 pub entry_reads : (depth : ℕ) (tokens : List (Token LibraryClass)) → read (entry depth) tokens ≡ read (attribute_entry depth) tokens
 unfolding entry
@@ -28,68 +33,71 @@ abbrev left_of : {K A : Type 0} → Reading K A → List K
 left_of (Ok p) = p.1
 left_of (Err left) = left
 
-pub inverted : {K A : Type 0} (r : Reading K A) (rest : List K) → passed r ≡ Ok (tt, rest) → (x : A) × (r ≡ Ok (x, rest))
-inverted (Ok p) rest e = (p.0, ap (λ l. Ok (p.0, l)) (ap left_of e))
-inverted (Err left) rest e = cc
+-- what was read where something is seen of it
+pub shown : {K A B : Type 0} (kept : A → B) (r : Reading K A) (y : B) (rest : List K) → seen kept r ≡ Ok (y, rest) → (x : A) × (r ≡ Ok (x, rest)) × (y ≡ kept x)
+shown {K} {A} {B} kept (Ok p) y rest e =
+    let both : (kept p.0, p.1) ≡ (y, rest) = cc in
+    (p.0, ap (λ (l : List K). Ok (p.0, l)) (ap (λ (q : B × List K). q.1) both), sym (ap (λ (q : B × List K). q.0) both))
+shown kept (Err left) y rest e = cc
 
-pub failed : {K A : Type 0} (r : Reading K A) (left : List K) → passed r ≡ Err left → r ≡ Err left
-failed (Ok p) left e = cc
-failed (Err other) left e = ap (λ l. Err l) (ap left_of e)
+pub failed : {K A B : Type 0} (kept : A → B) (r : Reading K A) (left : List K) → seen kept r ≡ Err left → r ≡ Err left
+failed kept (Ok p) left e = cc
+failed {K} kept (Err other) left e = let same : other ≡ left = cc in ap (λ (l : List K). Err l) same
 
-passed_front : {K A : Type 0} (front : List A) (r : Reading K (List A)) → passed (with_front front r) ≡ passed r
-passed_front front (Ok p) = refl
-passed_front front (Err left) = refl
+bare_front : {K A B : Type 0} (kept : List A → B) (r : Reading K (List A)) → seen kept (with_front [] r) ≡ seen kept r
+bare_front kept (Ok p) = refl
+bare_front kept (Err left) = refl
 
-present_none : {K A : Type 0} (front : List A) (r : Reading K (List (Option A))) → with_present front (with_front [] r) ≡ with_present front r
-present_none front (Ok p) = refl
-present_none front (Err left) = refl
+one_front : {K A B : Type 0} (before after : List A → B) (x : A) (r : Reading K (List A)) → ((xs : List A) → after xs ≡ before (x ∷ xs))
+    → seen after r ≡ seen before (with_front (x ∷ []) r)
+one_front {K} {A} {B} before after x (Ok p) step = ap (λ (b : B). Ok (b, p.1)) (step p.0)
+one_front before after x (Err left) step = refl
 
-present_one : {K A : Type 0} (front : List A) (x : Option A) (r : Reading K (List (Option A)))
-    → with_present front (with_front (x ∷ []) r) ≡ with_present (front ++ present (x ∷ [])) r
-present_one front x (Err left) = refl
-present_one front None (Ok p) = ap (λ l. Ok (l ++ present p.0, p.1)) (sym (append-nil front))
-present_one front (Some v) (Ok p) = ap (λ l. Ok (l, p.1)) (sym (append_assoc front (v ∷ []) (present p.0)))
+-- what is seen in two ways that are the same
+pub seen_alike : {K A B : Type 0} (one other : A → B) (r : Reading K A) → ((x : A) → one x ≡ other x) → seen one r ≡ seen other r
+seen_alike {K} {A} {B} one other (Ok p) same = ap (λ (b : B). Ok (b, p.1)) (same p.0)
+seen_alike one other (Err left) same = refl
 
-module _ {K A : Type 0} (begins : K → Bool) (phrase : Grammar K A) where
-  pub skips_on : (n m : ℕ) (tokens rest : List K) → n ≡ suc m → passes begins (next tokens) ≡ true → passed (read phrase tokens) ≡ Ok (tt, rest)
-      → passed (read (many n begins phrase) tokens) ≡ passed (read (many m begins phrase) rest)
-  skips_on n m tokens rest is more e =
-      let x = inverted (read phrase tokens) rest e in
-      sym (passed_front [] (read (many n begins phrase) tokens)) ∙ ap passed (many_on begins phrase [] n m tokens rest x.0 is more x.1)
-      ∙ passed_front (x.0 ∷ []) (read (many m begins phrase) rest)
+-- what is seen of phrases in a row: `before` of all that are left, `after` of those behind the first of them
+module _ {K A B : Type 0} (begins : K → Bool) (phrase : Grammar K A) where
+  pub row_on : (before after : List A → B) (n m : ℕ) (tokens rest : List K) (x : A) → n ≡ suc m → passes begins (next tokens) ≡ true → read phrase tokens ≡ Ok (x, rest)
+      → ((xs : List A) → after xs ≡ before (x ∷ xs))
+      → seen after (read (many m begins phrase) rest) ≡ seen before (read (many n begins phrase) tokens)
+  row_on before after n m tokens rest x is more e step =
+      one_front before after x (read (many m begins phrase) rest) step
+      ∙ sym (ap (seen before) (many_on begins phrase [] n m tokens rest x is more e))
+      ∙ bare_front before (read (many n begins phrase) tokens)
 
-  pub skips_fault : (n m : ℕ) (tokens left : List K) → n ≡ suc m → passes begins (next tokens) ≡ true → passed (read phrase tokens) ≡ Err left
-      → passed (read (many n begins phrase) tokens) ≡ Err left
-  skips_fault n m tokens left is more e =
-      sym (passed_front [] (read (many n begins phrase) tokens)) ∙ ap passed (many_fails begins phrase [] n m tokens left is more (failed (read phrase tokens) left e))
+  pub row_fault : (before : List A → B) (n m : ℕ) (tokens left : List K) → n ≡ suc m → passes begins (next tokens) ≡ true → read phrase tokens ≡ Err left
+      → seen before (read (many n begins phrase) tokens) ≡ Err left
+  row_fault before n m tokens left is more e =
+      sym (bare_front before (read (many n begins phrase) tokens)) ∙ ap (seen before) (many_fails begins phrase [] n m tokens left is more e)
 
-  pub skips_end : (n : ℕ) (tokens : List K) → passes begins (next tokens) ≡ false → passed (read (many n begins phrase) tokens) ≡ Ok (tt, tokens)
-  skips_end n tokens none =
-      sym (passed_front [] (read (many n begins phrase) tokens)) ∙ ap passed (many_stops begins phrase [] n tokens none)
+  pub row_end : (before : List A → B) (n : ℕ) (tokens : List K) → passes begins (next tokens) ≡ false
+      → seen before (read (many n begins phrase) tokens) ≡ Ok (before [], tokens)
+  row_end before n tokens none =
+      sym (bare_front before (read (many n begins phrase) tokens)) ∙ ap (seen before) (many_stops begins phrase [] n tokens none)
 
--- things as they are seen, behind those that there were
-pub seen_behind : {X A : Type 0} (view : X → A) (all : List X) (thing : Option X) (longer : List X) → longer ≡ all ++ present (thing ∷ [])
-    → map view longer ≡ map view all ++ present (option_map view thing ∷ [])
-seen_behind view all None longer is = ap (map view) is ∙ map-append view all []
-seen_behind view all (Some x) longer is = ap (map view) is ∙ map-append view all (x ∷ [])
+-- whether there are any, or were any before
+abbrev pub are_some_behind : {A : Type 0} → Bool → List A → Bool
+are_some_behind any xs = any || are_some xs
 
-module _ {K X A : Type 0} (view : X → A) (begins : K → Bool) (phrase : Grammar K (Option A)) (all : List X) where
-  pub present_on : (n m : ℕ) (tokens rest : List K) (thing : Option X) (longer : List X) → n ≡ suc m → passes begins (next tokens) ≡ true
-      → read phrase tokens ≡ Ok (option_map view thing, rest) → longer ≡ all ++ present (thing ∷ [])
-      → with_present (map view longer) (read (many m begins phrase) rest) ≡ with_present (map view all) (read (many n begins phrase) tokens)
-  present_on n m tokens rest thing longer is more e long =
-      ap (λ l. with_present l (read (many m begins phrase) rest)) (seen_behind view all thing longer long)
-      ∙ sym (present_one (map view all) (option_map view thing) (read (many m begins phrase) rest))
-      ∙ sym (ap (with_present (map view all)) (many_on begins phrase [] n m tokens rest (option_map view thing) is more e))
-      ∙ present_none (map view all) (read (many n begins phrase) tokens)
+pub some_more : (any : Bool) → true ≡ (any || true)
+some_more true = refl
+some_more false = refl
 
-  pub present_fault : (n m : ℕ) (tokens left : List K) → n ≡ suc m → passes begins (next tokens) ≡ true → read phrase tokens ≡ Err left
-      → with_present (map view all) (read (many n begins phrase) tokens) ≡ Err left
-  present_fault n m tokens left is more e =
-      sym (present_none (map view all) (read (many n begins phrase) tokens)) ∙ ap (with_present (map view all)) (many_fails begins phrase [] n m tokens left is more e)
+pub some_none : (any : Bool) → any ≡ (any || false)
+some_none true = refl
+some_none false = refl
 
-  pub present_end : (n : ℕ) (tokens : List K) → passes begins (next tokens) ≡ false
-      → with_present (map view all) (read (many n begins phrase) tokens) ≡ Ok (map view all, tokens)
-  present_end n tokens none =
-      sym (present_none (map view all) (read (many n begins phrase) tokens)) ∙ ap (with_present (map view all)) (many_stops begins phrase [] n tokens none)
-      ∙ ap (λ l. Ok (l, tokens)) (append-nil (map view all))
+-- the one of a first word and further ones
+pub lone_first : (others : Bool) (w : List ℕ) (more : List (List ℕ)) → others ≡ are_some more → (if others then None else Some w) ≡ lone (w ∷ more)
+lone_first others w [] e = rw e refl
+lone_first others w (m ∷ more) e = rw e refl
+
+-- the one of words before a last one
+pub lone_last : {X : Type 0} (others : Bool) (text : X → List ℕ) (before : List X) (last : X) → others ≡ are_some before
+    → (if others then None else Some (text last)) ≡ lone (map text (before ++ last ∷ []))
+lone_last others text [] last e = rw e refl
+lone_last others text (x ∷ []) last e = rw e refl
+lone_last others text (x ∷ y ∷ before) last e = rw e refl

@@ -3,6 +3,13 @@ pub mod PieceLaws
 pub mod StreamLaws
 pub mod TokenLaws
 pub mod KeptLaws
+pub mod ReadLaws
+pub mod MarkLaws
+pub mod FirstsLaws
+pub mod MentionLaws
+pub mod CellLaws
+pub mod RoleLaws
+pub mod WholeLaws
 pub mod NameLaws
 pub mod LibraryClear
 pub mod LibraryEnds

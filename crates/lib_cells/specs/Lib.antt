@@ -8,4 +8,7 @@ pub mod PieceViews
 pub mod Streams
 pub mod TokenTests
 pub mod Kept
-pub mod KeptViews
+pub mod Marks
+pub mod Mentions
+pub mod CellViews
+pub mod Readings

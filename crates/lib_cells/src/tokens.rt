@@ -1,5 +1,5 @@
 //! The tokens of a library's text, one ahead of where it is read.
-ghost use Rattle.std.specs.Prelude.{◌≡◌, ◌<◌, ◌&&◌, OnOk, length, drop, codes};
+ghost use Rattle.std.specs.Prelude.{◌≡◌, ◌<◌, ◌&&◌, ◌↔◌, [], IsTrue, OnOk, length, drop, codes};
 ghost use Rattle.text_defs.specs.Grammar.{next, passes};
 ghost use Rattle.text_defs.specs.Tokens.{line_left, of_class, one_of};
 ghost use Rattle.list_defs.specs.Members.{same_name};
@@ -33,6 +33,7 @@ pub enum Wanted {
 }
 
 /// The tokens that are left of a text.
+#[derive(Drop)]
 pub struct Tokens<'a> {
     next: Option<Word<'a>>,
     front: Front<'a>,
@@ -107,6 +108,13 @@ impl<'a> Tokens<'a> {
             None => last_line(text),
             Some(word) => word.line,
         }
+    }
+
+    /// Whether none is left.
+    pub fn is_empty(&self) -> bool
+        ensures { IsTrue result ↔ (self.now ≡ []) }
+    {
+        self.next.is_none()
     }
 
     /// Goes on behind the next token.

@@ -47,7 +47,8 @@ fn level_of(kept: &Kept, n: usize) -> u32
     kept.nodes.as_slice()[n - 2].level
 }
 
-// The number of the states of a kept number, where `sets` has those of its children.
+// The number of the states of a kept number, where `sets` has those of its children: all states, or any of a node's
+// alternatives.
 fn number_set(
     kept: &Kept,
     level: u32,
@@ -66,25 +67,6 @@ fn number_set(
     if n == 1 {
         return into.full(0);
     }
-    node_set(kept, level, n, into, places, sets)
-}
-
-// The same for a kept node: any of its alternatives.
-fn node_set(
-    kept: &Kept,
-    level: u32,
-    n: usize,
-    into: &mut Pool,
-    places: &[Place],
-    sets: &[u32],
-) -> Result<u32, DiagFault>
-    requires places { ArePlaces kept.now into.old.arities places.now }
-    requires nodes { AreKeptNodes kept.now }
-    requires low { 2 ≤ n }
-    requires number { IsKept kept.now level n }
-    requires sets { AreKidsLifted into.old (shapes_of kept.now) (drop (level + 1) places.now) n sets.now }
-    ensures { Makes (IsAllowed into.old.arities (shapes_of kept.now) (drop level places.now) n) 0 (lifted_set into.old.arities (shapes_of kept.now) (drop level places.now) n) into.old into.new result }
-{
     let _count = into.nodes();
     let kids = kept.nodes.as_slice()[n - 2].kids.as_slice();
     let place = &places[level as usize];

@@ -2,13 +2,9 @@ pub mod FirstPlaces
 pub mod FoundKinds
 pub mod NoneBefore
 pub mod NamesApart
-pub mod SamePorts
 pub mod Places
 pub mod Searching
 pub mod Ways
 pub mod Cycles
 pub mod NoTop
-pub mod AllUnder
-pub mod Sizing
-pub mod More
-pub mod Deep
+pub mod Below

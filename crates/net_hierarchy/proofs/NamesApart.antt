@@ -71,7 +71,7 @@ module _ (s : Sources) (k : Kinds) (are : AreKinds s.modules s.cells s.models k)
       (found.0, at.0, found.1, found.2, at.1, sym (same_name-equal m.name at.0.name at.2))
 
   -- a module that the tables find twice is at fault
-  pub fault_of_twice : (n : ℕ) (m : Module) → module_at s n ≡ Some m → is_twice k n m ≡ true → IsFault s (of_module FaultKind.module_twice n m)
+  pub fault_of_twice : (n : ℕ) (m : Module) → module_at s n ≡ Some m → is_twice k n m.name ≡ true → IsFault s (of_module FaultKind.module_twice n m)
   fault_of_twice n m there twice =
       elim (or_cases (is_some (first_place k.cells m.name)) (not (is_at n (first_place k.modules m.name))) twice) [
         | inl cell ↦ by_cell (cell_named s m.name) refl (ap is_some (sym (cell_found s k are m.name)) ∙ cell)
@@ -91,7 +91,7 @@ module _ (s : Sources) (k : Kinds) (are : AreKinds s.modules s.cells s.models k)
           IsFault.module_twice n first.0 m first.1 there first.4 (omega arith) first.5
 
   -- a module that isn't the first of its name is found twice
-  twice_by_module : (n earlier : ℕ) (m other : Module) → module_at s n ≡ Some m → module_at s earlier ≡ Some other → earlier < n → other.name ≡ m.name → is_twice k n m ≡ true
+  twice_by_module : (n earlier : ℕ) (m other : Module) → module_at s n ≡ Some m → module_at s earlier ≡ Some other → earlier < n → other.name ≡ m.name → is_twice k n m.name ≡ true
   twice_by_module n earlier m other there before less same =
       let found = place_upto (λ (x : Module). same_name m.name x.name) s.modules earlier other before (ap (same_name m.name) same ∙ same_name-itself m.name) in
       let le : found.0 ≤ earlier = found.2 in
@@ -99,12 +99,12 @@ module _ (s : Sources) (k : Kinds) (are : AreKinds s.modules s.cells s.models k)
       or_right (is_some (first_place k.cells m.name)) (not (is_at n (first_place k.modules m.name)))
       (ap (λ o. not (is_at n o)) (module_found s k are m.name ∙ found.1) ∙ at_other n found.0 differ)
 
-  twice_by_cell : (n c : ℕ) (m : Module) → cell_named s m.name ≡ Some c → is_twice k n m ≡ true
+  twice_by_cell : (n c : ℕ) (m : Module) → cell_named s m.name ≡ Some c → is_twice k n m.name ≡ true
   twice_by_cell n c m cell =
       or_left (is_some (first_place k.cells m.name)) (not (is_at n (first_place k.modules m.name))) (ap is_some (cell_found s k are m.name ∙ cell))
 
   pub twice_of_fault : (g : Fault) → IsFault s g → kind_number g.kind ≡ 0
-      → (n : ℕ) × (m : Module) × (g ≡ of_module FaultKind.module_twice n m) × (module_at s n ≡ Some m) × (is_twice k n m ≡ true)
+      → (n : ℕ) × (m : Module) × (g ≡ of_module FaultKind.module_twice n m) × (module_at s n ≡ Some m) × (is_twice k n m.name ≡ true)
   twice_of_fault _ (IsFault.module_twice n earlier m other there before lower same) e =
       (n, m, refl, there, twice_by_module n earlier m other there before lower same)
   twice_of_fault _ (IsFault.module_and_cell n c m there cell) e = (n, m, refl, there, twice_by_cell n c m cell)
@@ -119,7 +119,7 @@ module _ (s : Sources) (k : Kinds) (are : AreKinds s.modules s.cells s.models k)
           let found = twice_of_fault g is e in
           record { number = found.0; other = found.1; is = found.2; later = not_before found.0 found.1 found.3 found.4; same = one found.0 found.1 found.3 }
         where
-          not_before : (number : ℕ) (other : Module) → module_at s number ≡ Some other → is_twice k number other ≡ true → n ≤ number
+          not_before : (number : ℕ) (other : Module) → module_at s number ≡ Some other → is_twice k number other.name ≡ true → n ≤ number
           not_before number other there twice =
               elim (cases_lt number n) [ inl less ↦ absurd (true≢false (sym twice ∙ first.first number other there less)) | inr le ↦ le ]
 

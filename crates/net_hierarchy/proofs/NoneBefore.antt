@@ -16,14 +16,14 @@ use Rattle.net_hierarchy.specs.Firstness.{HasNoneBefore}
 pub same_or_less : (a b : ℕ) → a ≤ b → (a ≡ b) ⊎ (a < b)
 same_or_less a b le = elim (cases_lt a b) [ inl less ↦ inr less | inr more ↦ inl (omega arith) ]
 
-nat_cmp_same : (a b : ℕ) → a ≡ b → nat_cmp a b ≡ Equal
+pub nat_cmp_same : (a b : ℕ) → a ≡ b → nat_cmp a b ≡ Equal
 nat_cmp_same a b e = sym (nat_cmp_is a b Equal e)
 
 nat_cmp_more : (a b : ℕ) → b < a → nat_cmp a b ≡ Greater
 nat_cmp_more a b e = sym (nat_cmp_is a b Greater e)
 
 -- what says Greater does not say Less
-not_less : (o : Ordering) → o ≡ Greater → o ≢ Less
+pub not_less : (o : Ordering) → o ≡ Greater → o ≢ Less
 not_less o greater less = cc
 
 -- a fault of a later kind comes later

@@ -11,22 +11,22 @@ abbrev pub is_at : ℕ → Option ℕ → Bool
 is_at n None = false
 is_at n (Some found) = found == n
 
--- whether the module of this number has the name of a cell, or isn't the first of its name
-abbrev pub is_twice : Kinds → ℕ → Module → Bool
-is_twice k n m = is_some (first_place k.cells m.name) || not (is_at n (first_place k.modules m.name))
+-- whether a module of this number and name has the name of a cell, or isn't the first of its name
+abbrev pub is_twice : Kinds → ℕ → List ℕ → Bool
+is_twice k n name = is_some (first_place k.cells name) || not (is_at n (first_place k.modules name))
 
 -- No module, or none up to a number, has a name of others.
 abbrev pub AreNamedApart : Kinds → List Module → Type 0
-AreNamedApart k modules = (n : ℕ) (m : Module) → slice_get modules n ≡ Some m → is_twice k n m ≡ false
+AreNamedApart k modules = (n : ℕ) (m : Module) → slice_get modules n ≡ Some m → is_twice k n m.name ≡ false
 
 abbrev pub AreApartBefore : Kinds → List Module → ℕ → Type 0
-AreApartBefore k modules end = (n : ℕ) (m : Module) → slice_get modules n ≡ Some m → n < end → is_twice k n m ≡ false
+AreApartBefore k modules end = (n : ℕ) (m : Module) → slice_get modules n ≡ Some m → n < end → is_twice k n m.name ≡ false
 
 -- the first module that has a name of others
 pub record IsFirstTwice (k : Kinds) (modules : List Module) (n : ℕ) : Type 0 where
   pub m : Module
   pub there : slice_get modules n ≡ Some m
-  pub twice : is_twice k n m ≡ true
+  pub twice : is_twice k n m.name ≡ true
   pub first : AreApartBefore k modules n
 
 -- the first module of the model's name has this number and other ports

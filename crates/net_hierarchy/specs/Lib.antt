@@ -4,6 +4,4 @@ pub mod ByName
 pub mod Graph
 pub mod Search
 pub mod Ordered
-pub mod Under
-pub mod Sizes
-pub mod Depths
+pub mod Below

@@ -19,5 +19,5 @@ HasNoneOf s kind = (f : Fault) → IsFault s f → kind_number f.kind ≢ kind_n
 -- what each answer says
 abbrev pub IsSorted : Sources → ℕ → Sorted → Type 0
 IsSorted s top Recursive = HasFaultOf s FaultKind.recursion
-IsSorted s top Unknown = HasNoneOf s FaultKind.recursion × HasFaultOf s FaultKind.unknown_type
+IsSorted s top (Unknown order) = HasNoneOf s FaultKind.recursion × HasFaultOf s FaultKind.unknown_type × IsOrder (types_of s) top order.items
 IsSorted s top (Modules order) = HasNoneOf s FaultKind.recursion × HasNoneOf s FaultKind.unknown_type × IsOrder (types_of s) top order.items

@@ -14,9 +14,10 @@ use std::alloc::Global;
 pub enum Sorted {
     /// An instance is of a module that it is inside.
     Recursive,
-    /// There is no recursion, and an instance is of a type that isn't there.
-    Unknown,
-    /// Neither. The numbers are those of all modules below the top, each behind those that it holds.
+    /// There is no recursion, and an instance is of a type that isn't there. The numbers are those of all modules below the
+    /// top, each behind those that it holds.
+    Unknown(Vec<u32>),
+    /// Neither, with the same numbers.
     Modules(Vec<u32>),
 }
 
@@ -62,7 +63,7 @@ pub fn sorted_modules(
     match search::order_of(alloc, types, top)? {
         Some(order) => {
             if has_unknown(types, order.as_slice()) {
-                return Ok(Sorted::Unknown);
+                return Ok(Sorted::Unknown(order));
             }
             Ok(Sorted::Modules(order))
         }

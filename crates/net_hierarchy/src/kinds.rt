@@ -4,7 +4,9 @@ ghost use Rattle.design_defs.specs.Hierarchy.{Sources, type_of, module_named, ce
 ghost use Rattle.net_hierarchy.specs.Kinds.{AreFirsts, AreKinds, first_place, type_in, module_names, cell_names, model_names};
 
 use crate::firsts::Firsts;
-use pw_defs::{Body, Cell, Cells, List, Memory, Model, Module};
+use crate::rows::name_of;
+use module_rows::Modules;
+use pw_defs::{Body, Cell, Cells, List, Memory, Model};
 use std::alloc::Global;
 
 /// Finds models, modules and cells by their names.
@@ -59,13 +61,12 @@ impl Kinds {
     }
 }
 
-fn names_of_modules(alloc: Global, modules: &[Module]) -> Result<Firsts, Memory>
-    requires { length modules.now ≤ 4294967295 }
-    ensures { IfOk result (λ firsts. AreFirsts (module_names modules.now) firsts) }
+fn names_of_modules(alloc: Global, modules: &Modules) -> Result<Firsts, Memory>
+    ensures { IfOk result (λ firsts. AreFirsts (module_names modules.now.modules) firsts) }
 {
     let mut firsts = Firsts::new(alloc);
-    for (place, module) in modules.iter().enumerate() {
-        firsts.add(module.name.as_slice(), place as u32)?;
+    for place in 0..modules.len() {
+        firsts.add(name_of(modules, place), place)?;
     }
     Ok(firsts)
 }
@@ -95,15 +96,15 @@ fn names_of_models(alloc: Global, models: &[Model]) -> Result<Firsts, Memory>
 /// The names of all modules, cells and models.
 pub fn kinds_of(
     alloc: Global,
-    modules: &List<Module>,
+    modules: &Modules,
     cells: &Cells,
     models: &List<Model>,
 ) -> Result<Kinds, Memory>
-    ensures { IfOk result (λ kinds. AreKinds modules.now cells.now models.now kinds) }
+    ensures { IfOk result (λ kinds. AreKinds modules.now.modules cells.now models.now kinds) }
 {
     Ok(Kinds {
         models: names_of_models(alloc, models.as_slice())?,
-        modules: names_of_modules(alloc, modules.as_slice())?,
+        modules: names_of_modules(alloc, modules)?,
         cells: names_of_cells(alloc, cells.cells.as_slice())?,
     })
 }

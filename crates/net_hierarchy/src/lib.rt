@@ -3,21 +3,17 @@
 #![tactic(auto)]
 
 mod by_name;
-mod depths;
 mod firsts;
 mod hierarchy;
 mod kinds;
-mod large;
+mod rows;
 mod search;
-mod sizes;
 mod tops;
 mod types;
 
 pub use by_name::first_by_name;
-pub use depths::{depths_of, is_deeper};
 pub use hierarchy::{Sorted, sorted_modules};
 pub use kinds::{Kinds, kinds_of};
-pub use large::is_too_large;
-pub use sizes::{Counts, has_more, sizes_of};
+pub use search::{Frame, Item, item_at};
 pub use tops::top_number;
 pub use types::types_of;

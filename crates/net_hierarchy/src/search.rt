@@ -18,14 +18,14 @@ pub(crate) enum Mark {
 
 /// A module that the search is inside, and the place of the instance that comes next.
 #[derive(Clone, Copy)]
-pub(crate) struct Frame {
-    pub(crate) number: u32,
-    pub(crate) next: u32,
+pub struct Frame {
+    pub number: u32,
+    pub next: u32,
 }
 
 /// What stands at the place of an instance.
 #[derive(Clone, Copy)]
-pub(crate) enum Item {
+pub enum Item {
     End,
     Leaf,
     Module(u32),
@@ -48,7 +48,7 @@ pub(crate) struct Search {
 }
 
 /// What stands at the next place of a module.
-fn item_at(types: &List<List<Option<Body>>>, frame: Frame) -> Item
+pub fn item_at(types: &List<List<Option<Body>>>, frame: Frame) -> Item
     ensures { result ≡ item_at types.now frame }
 {
     match types.get(frame.number) {

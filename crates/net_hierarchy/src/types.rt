@@ -1,20 +1,29 @@
 //! The types of the instances of each module.
-ghost use Rattle.std.specs.Prelude.{◌≡◌, map, IfOk};
+ghost use Rattle.std.specs.Prelude.{◌≡◌, ◌<◌, length, map, IfOk};
 ghost use Rattle.design_defs.specs.Hierarchy.{Sources};
+ghost use Rattle.module_rows.specs.Reads.{module_at};
 ghost use Rattle.net_hierarchy.specs.Graph.{types_of};
 ghost use Rattle.net_hierarchy.specs.Kinds.{AreKinds, type_in, types_by};
 
 use crate::kinds::Kinds;
-use pw_defs::{Body, Inst, List, Memory, Module};
+use crate::rows::kind_of;
+use module_rows::Modules;
+use pw_defs::{Body, List, Memory};
 use std::alloc::Global;
 
 /// The types of the instances of one module, in their order.
-fn types_in(alloc: Global, kinds: &Kinds, insts: &[Inst]) -> Result<List<Option<Body>>, Memory>
-    ensures { IfOk result (λ types. types ≡ map (λ i. type_in kinds.now i.kind) insts.now) }
+fn types_in(
+    alloc: Global,
+    kinds: &Kinds,
+    modules: &Modules,
+    holder: u32,
+) -> Result<List<Option<Body>>, Memory>
+    requires { holder < length modules.now.modules }
+    ensures { IfOk result (λ types. types ≡ map (λ i. type_in kinds.now i.kind) (module_at modules.now holder).insts) }
 {
     let mut types = List::new(alloc);
-    for inst in insts {
-        types.push(kinds.type_of(inst.kind.as_slice()))?;
+    for inst in 0..modules.module(holder).insts {
+        types.push(kinds.type_of(kind_of(modules, holder, inst)))?;
     }
     Ok(types)
 }
@@ -23,13 +32,13 @@ fn types_in(alloc: Global, kinds: &Kinds, insts: &[Inst]) -> Result<List<Option<
 fn rows_of(
     alloc: Global,
     kinds: &Kinds,
-    modules: &[Module],
+    modules: &Modules,
 ) -> Result<List<List<Option<Body>>>, Memory>
-    ensures { IfOk result (λ types. types ≡ types_by kinds.now modules.now) }
+    ensures { IfOk result (λ types. types ≡ types_by kinds.now modules.now.modules) }
 {
     let mut types = List::new(alloc);
-    for declared in modules {
-        types.push(types_in(alloc, kinds, declared.insts.as_slice())?)?;
+    for holder in 0..modules.len() {
+        types.push(types_in(alloc, kinds, modules, holder)?)?;
     }
     Ok(types)
 }
@@ -38,10 +47,10 @@ fn rows_of(
 pub fn types_of(
     alloc: Global,
     kinds: &Kinds,
-    modules: &List<Module>,
+    modules: &Modules,
 ) -> Result<List<List<Option<Body>>>, Memory>
-    ensures { IfOk result (λ types. (s : Sources) → AreKinds s.modules s.cells s.models kinds.now → s.modules ≡ modules.now → types ≡ types_of s) }
+    ensures { IfOk result (λ types. (s : Sources) → AreKinds s.modules s.cells s.models kinds.now → s.modules ≡ modules.now.modules → types ≡ types_of s) }
 {
-    let types = rows_of(alloc, kinds, modules.as_slice())?;
+    let types = rows_of(alloc, kinds, modules)?;
     Ok(types)
 }

@@ -15,8 +15,8 @@ use Rattle.std.specs.Ordering.{ordering_reverse}
 use Rattle.design_defs.proofs.BitOrders.{way_total}
 use Rattle.design_defs.proofs.Lookups.{IsInsideBy, inside_by}
 use Rattle.net_hierarchy.specs.Graph.{AreInstsApart}
-use Rattle.net_hierarchy.specs.Under.{body_below}
-use Rattle.net_hierarchy.proofs.AllUnder.{below_first, snoc_view}
+use Rattle.net_hierarchy.specs.Below.{body_below}
+use Rattle.net_hierarchy.proofs.Below.{below_first, snoc_view}
 use Rattle.net_hierarchy.proofs.Ways.{inside_of_line}
 use Rattle.net_least.proofs.Fronts.{same_first}
 use Rattle.net_least.specs.Nearest.{AreInstsNamed, AreNamed, AreNone, HasUnknownLine, IsLeastWay, IsUnknownAt, IsUnknownBy}

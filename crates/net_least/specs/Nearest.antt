@@ -7,7 +7,7 @@ use Rattle.pw_defs.specs.declared.netlist.Inst.{Inst}
 use Rattle.pw_defs.specs.declared.netlist.Module.{Module}
 use Rattle.list_defs.specs.Members.{IsIn}
 use Rattle.design_defs.specs.Hierarchy.{Sources, Way, module_at, type_of, way_cmp}
-use Rattle.net_hierarchy.specs.Under.{body_below}
+use Rattle.net_hierarchy.specs.Below.{body_below}
 
 -- no instance has an empty name
 abbrev pub AreInstsNamed : Sources → Type 0

@@ -4,10 +4,10 @@ ghost use Rattle.design_defs.specs.DesignFaults.{FaultKind};
 ghost use Rattle.design_defs.specs.Hierarchy.{Sources, module_named};
 ghost use Rattle.net_hierarchy.specs.Firstness.{HasNoneBefore, IsCause};
 ghost use Rattle.net_hierarchy.specs.Graph.{AreInstsApart, IsOrder, types_of};
-ghost use Rattle.net_hierarchy.specs.Sizes.{AreCounted, AreOwnSpots, one_each};
-ghost use Rattle.net_hierarchy.specs.Under.{Own};
+ghost use Rattle.net_sizes.specs.Sizes.{AreCounted, AreOwnSpots, one_each};
+ghost use Rattle.net_sizes.specs.Under.{Own};
 
-use net_hierarchy::{Counts, is_too_large};
+use net_sizes::{Counts, is_too_large};
 use pw_defs::{AtModule, Body, DesignFault, List, Memory, Name};
 use std::alloc::Global;
 

@@ -1,8 +1,8 @@
 -- The sets of several conditions, one after the other.
-use Rattle.std.proofs.Common.{◌≡◌, ℕ, zero, suc, ◌+◌, ◌<◌, Bool, true, ◌&&◌, List, [], ◌∷◌, ◌++◌, take, length, get_or, refl, sym, ap, ◌∙◌, subst, arith}
-use Rattle.std.specs.List.{All}
+use Rattle.std.proofs.Common.{◌≡◌, ℕ, zero, suc, ◌+◌, ◌<◌, Bool, true, ◌&&◌, List, [], ◌∷◌, ◌++◌, take, length, get_or, refl, sym, ap, ◌∙◌, subst}
+use Rattle.std.specs.List.{AllZip}
 use Rattle.std.proofs.lemmas.List.{take_more}
-use Rattle.std.proofs.lemmas.List.Elements.{All-push, All-weaker}
+use Rattle.std.proofs.lemmas.List.Elements.{All-nil, All-cons}
 use Rattle.pw_defs.specs.declared.values.Value.{Value}
 use Rattle.pw_defs.specs.declared.conditions.Cond.{Cond}
 use Rattle.supply_defs.specs.Conditions.{holds}
@@ -15,46 +15,55 @@ use Rattle.diagram_defs.specs.Diagrams.{Diagram, Grows}
 use Rattle.diagram_defs.specs.Locals.{IsLocal, IsLocalFor, AreLocals, states_of}
 use Rattle.diagram_defs.specs.Quantified.{quantified, quantified_two}
 use Rattle.diagram_defs.proofs.Guards.{guarded}
-use Rattle.diagram_defs.proofs.LocalSets.{IsLocal_grows, states_grow}
-use Rattle.diagram_defs.proofs.Quantifying.{quantified_first, quantified_nothing, quantified_append, two_none}
+use Rattle.diagram_defs.proofs.LocalSets.{local_grows}
+use Rattle.diagram_defs.proofs.Quantifying.{quantified_first, quantified_nothing}
 use Rattle.state_meets.specs.Gathered.{gathered_set}
 use Rattle.state_build.specs.Built.{value_of, built_set, joined_cond}
 use Rattle.state_build.specs.Joined.{AreBuilt}
 
--- sets in a table that has grown
-AreLocals_grow : (old new : Diagram) (sets : List Local) → Grows old new → AreLocals old sets → AreLocals new sets
-AreLocals_grow old new sets g all = All-weaker (IsLocal old) (IsLocal new) (λ s is. IsLocal_grows old new s g is) sets all
+-- pairs of items of two lists, one more, the first ones, and by another relation
+zip_push : {A B : Type 0} (R : A → B → Type 0) (xs : List A) (ys : List B) (x : A) (y : B) → AllZip R xs ys → R x y → AllZip R (xs ++ x ∷ []) (ys ++ y ∷ [])
+zip_push R [] [] x y h r = (r, tt)
+zip_push R [] (b ∷ ys) x y h r = absurd h
+zip_push R (a ∷ xs) [] x y h r = absurd h
+zip_push R (a ∷ xs) (b ∷ ys) x y h r = (h.0, zip_push R xs ys x y h.1 r)
 
-sets_grow : (old new : Diagram) (q : Quantifier) (sets : List Local) (state : List ℕ) → Grows old new → AreLocals old sets → quantified q (λ s. states_of new s state) sets ≡ quantified q (λ s. states_of old s state) sets
-sets_grow old new q [] state g all = quantified_nothing q (λ s. states_of new s state) ∙ sym (quantified_nothing q (λ s. states_of old s state))
-sets_grow old new q (s ∷ sets) state g all =
-    let here = states_grow old new s.level s.number g (all 0 s (omega arith)).number_in state in
-    let others = sets_grow old new q sets state g (λ k d low. all (suc k) d (omega arith)) in
-    quantified_first q (λ t. states_of new t state) s sets ∙ (λ i. quantified_two q (here i) (others i)) ∙ sym (quantified_first q (λ t. states_of old t state) s sets)
+zip_take : {A B : Type 0} (R : A → B → Type 0) (n : ℕ) (xs : List A) (ys : List B) → AllZip R xs ys → AllZip R (take n xs) (take n ys)
+zip_take R zero xs ys h = tt
+zip_take R (suc n) [] [] h = tt
+zip_take R (suc n) [] (b ∷ ys) h = absurd h
+zip_take R (suc n) (a ∷ xs) [] h = absurd h
+zip_take R (suc n) (a ∷ xs) (b ∷ ys) h = (h.0, zip_take R n xs ys h.1)
 
-one_more : {X : Type 0} (q : Quantifier) (p : X → Bool) (xs : List X) (x : X) → quantified q p (xs ++ x ∷ []) ≡ quantified_two q (quantified q p xs) (p x)
-one_more q p xs x =
-    quantified_append q p xs (x ∷ []) ∙ ap (λ (b : Bool). quantified_two q (quantified q p xs) b) (quantified_first q p x [] ∙ ap (λ (b : Bool). quantified_two q (p x) b) (quantified_nothing q p) ∙ two_none q (p x))
+zip_weaker : {A B : Type 0} (R S : A → B → Type 0) → ((x : A) (y : B) → R x y → S x y) → (xs : List A) (ys : List B) → AllZip R xs ys → AllZip S xs ys
+zip_weaker R S so [] [] h = tt
+zip_weaker R S so [] (b ∷ ys) h = absurd h
+zip_weaker R S so (a ∷ xs) [] h = absurd h
+zip_weaker R S so (a ∷ xs) (b ∷ ys) h = (so a b h.0, zip_weaker R S so xs ys h.1)
 
 module _ (arities : List ℕ) (lists : List (List Value)) where
-  pub AreBuilt_none : (d : Diagram) → AreBuilt d arities lists [] []
-  AreBuilt_none d = record {
-    locals = λ k s low. absurd (omega arith);
-    same = λ q state. quantified_nothing q (λ s. states_of d s state) ∙ sym (quantified_nothing q (λ cond. built_set arities lists cond state));
-  }
-
   -- the set of one more condition
   pub AreBuilt_more : (mid new : Diagram) (conds : List Cond) (i : ℕ) (cond : Cond) (sets : List Local) (set : Local) → Grows mid new → i < length conds → cond ≡ get_or conds i cond → AreBuilt mid arities lists (take i conds) sets → IsLocalFor new (built_set arities lists cond) set
       → AreBuilt new arities lists (take (i + 1) conds) (sets ++ set ∷ [])
-  AreBuilt_more mid new conds i cond sets set g inside there before is = record {
-    locals = All-push (IsLocal new) sets set (AreLocals_grow mid new sets g before.locals) is.is;
-    same = λ q state.
-        let first = sets_grow mid new q sets state g before.locals ∙ before.same q state in
-        let all = take_more conds i cond inside ∙ ap (λ (c : Cond). take i conds ++ c ∷ []) (sym there) in
-        one_more q (λ s. states_of new s state) sets set
-        ∙ (λ k. quantified_two q (first k) (is.same state k))
-        ∙ sym (ap (quantified q (λ c. built_set arities lists c state)) all ∙ one_more q (λ c. built_set arities lists c state) (take i conds) cond);
-  }
+  AreBuilt_more mid new conds i cond sets set g inside there before is =
+      let grown = zip_weaker (λ c s. IsLocalFor mid (built_set arities lists c) s) (λ c s. IsLocalFor new (built_set arities lists c) s) (λ c s. local_grows mid new (built_set arities lists c) s g) (take i conds) sets before in
+      let all = take_more conds i cond inside ∙ ap (λ (c : Cond). take i conds ++ c ∷ []) (sym there) in
+      subst (λ (cs : List Cond). AreBuilt new arities lists cs (sets ++ set ∷ [])) (sym all) (zip_push (λ c s. IsLocalFor new (built_set arities lists c) s) (take i conds) sets cond set grown is)
+
+  pub built_locals : (d : Diagram) (conds : List Cond) (sets : List Local) → AreBuilt d arities lists conds sets → AreLocals d sets
+  built_locals d [] [] h = All-nil (IsLocal d)
+  built_locals d [] (set ∷ sets) h = absurd h
+  built_locals d (cond ∷ conds) [] h = absurd h
+  built_locals d (cond ∷ conds) (set ∷ sets) h = All-cons (IsLocal d) set sets h.0.is (built_locals d conds sets h.1)
+
+  built_same : (d : Diagram) (q : Quantifier) (conds : List Cond) (sets : List Local) (state : List ℕ) → AreBuilt d arities lists conds sets → quantified q (λ s. states_of d s state) sets ≡ quantified q (λ c. built_set arities lists c state) conds
+  built_same d q [] [] state h = quantified_nothing q (λ s. states_of d s state) ∙ sym (quantified_nothing q (λ c. built_set arities lists c state))
+  built_same d q [] (set ∷ sets) state h = absurd h
+  built_same d q (cond ∷ conds) [] state h = absurd h
+  built_same d q (cond ∷ conds) (set ∷ sets) state h =
+      let here = h.0.same state in
+      let others = built_same d q conds sets state h.1 in
+      quantified_first q (λ s. states_of d s state) set sets ∙ (λ i. quantified_two q (here i) (others i)) ∙ sym (quantified_first q (λ c. built_set arities lists c state) cond conds)
 
   holds_joined : (value : ℕ → Value) (q : Quantifier) (conds : List Cond) → holds value (joined_cond q conds) ≡ quantified q (holds value) conds
   holds_joined value which.All conds = holds_all value conds
@@ -68,4 +77,9 @@ module _ (arities : List ℕ) (lists : List (List Value)) where
     where
       there : is_rest arities state ≡ true → quantified q (λ s. states_of d s state) sets ≡ holds (value_of lists state) (joined_cond q conds)
       there full =
-          built.same q state ∙ ap (λ (b : Bool). quantified q (λ c. b && holds (value_of lists state) c) conds) full ∙ sym (holds_joined (value_of lists state) q conds)
+          built_same d q conds sets state built ∙ ap (λ (b : Bool). quantified q (λ c. b && holds (value_of lists state) c) conds) full ∙ sym (holds_joined (value_of lists state) q conds)
+
+  -- and from the sets of the first ones
+  pub front_built : (d : Diagram) (q : Quantifier) (conds : List Cond) (sets : List Local) (count : ℕ) (state : List ℕ) → d.arities ≡ arities → AreBuilt d arities lists conds sets → gathered_set d q (take count sets) state ≡ built_set arities lists (joined_cond q (take count conds)) state
+  front_built d q conds sets count state is built =
+      gathered_built d q (take count conds) (take count sets) state is (zip_take (λ c s. IsLocalFor d (built_set arities lists c) s) count conds sets built)

@@ -1,5 +1,6 @@
 pub mod Entering
 pub mod Joining
+pub mod ListLaws
 pub mod Lowering
 pub mod Pairing
 pub mod Singles

@@ -11,7 +11,7 @@ use Rattle.diagram_defs.specs.Sets.{widened_set}
 use Rattle.state_build.specs.declared.levels.ValueTest.{ValueTest}
 use Rattle.state_build.specs.declared.levels.ValueTest.TheVariants as tests
 use Rattle.state_build.specs.Built.{value_of, built_set}
-use Rattle.state_build.specs.ValueTests.{passes, chosen_set}
+use Rattle.state_build.specs.ValueTests.{passes, chosen_set, value_set}
 use Rattle.state_build.proofs.Tested.{tested_widened}
 
 -- the list of a level, as the code reads it
@@ -26,14 +26,13 @@ module _ (old : Diagram) (pool : IsPool old) (lists : List (List Value)) (level 
       let index = get_or-drop (level - 0) state 0 0 ∙ ap (λ (k : ℕ). get_or state k 0) place in
       λ i. passes test (slice_index_or (is i) (index i) Off)
 
-  chosen_whole : (test : ValueTest) (state : List ℕ) → widened_set old 0 level (chosen_set old.arities level values test) state ≡ (is_rest old.arities state && passes test (value_of lists state level))
+  pub chosen_whole : (test : ValueTest) (state : List ℕ) → widened_set old 0 level (chosen_set old.arities level values test) state ≡ value_set old.arities lists level test state
   chosen_whole test =
       tested_widened old pool 0 level (omega arith) (omega arith) (λ rest. passes test (slice_index_or values (slice_index rest 0) Off)) (λ state. passes test (value_of lists state level)) (at_level test)
 
-  pub chosen_is : (value : Value) (state : List ℕ) → widened_set old 0 level (chosen_set old.arities level values (tests.Is value)) state ≡ built_set old.arities lists (Is level value) state
-  chosen_is value state =
-      chosen_whole (tests.Is value) state ∙ ap (λ (b : Bool). is_rest old.arities state && b) (sym (holds_is (value_of lists state) level value))
+-- the states by the value of a supply are those of a condition
+pub value_is : (arities : List ℕ) (lists : List (List Value)) (supply : ℕ) (value : Value) (state : List ℕ) → value_set arities lists supply (tests.Is value) state ≡ built_set arities lists (Is supply value) state
+value_is arities lists supply value state = ap (λ (b : Bool). is_rest arities state && b) (sym (holds_is (value_of lists state) supply value))
 
-  pub chosen_on : (state : List ℕ) → widened_set old 0 level (chosen_set old.arities level values tests.On) state ≡ built_set old.arities lists (On level) state
-  chosen_on state =
-      chosen_whole tests.On state ∙ ap (λ (b : Bool). is_rest old.arities state && b) (sym (holds_on (value_of lists state) level))
+pub value_on : (arities : List ℕ) (lists : List (List Value)) (supply : ℕ) (state : List ℕ) → value_set arities lists supply tests.On state ≡ built_set arities lists (On supply) state
+value_on arities lists supply state = ap (λ (b : Bool). is_rest arities state && b) (sym (holds_on (value_of lists state) supply))

@@ -30,6 +30,10 @@ abbrev pub chosen_set : List ℕ → ℕ → List Value → ValueTest → List �
 chosen_set arities level values test rest =
     is_rest (drop level arities) rest && passes test (slice_index_or values (slice_index rest 0) Off)
 
+-- the whole states whose value at a level passes
+abbrev pub value_set : List ℕ → List (List Value) → ℕ → ValueTest → List ℕ → Bool
+value_set arities lists level test state = is_rest arities state && passes test (value_of lists state level)
+
 -- the rests of a level whose value at a later level passes
 abbrev pub passing_set : List ℕ → ℕ → ℕ → List Value → ValueTest → List ℕ → Bool
 passing_set arities level at values test rest =

@@ -2,28 +2,30 @@
 
 ghost use Rattle.std.specs.Prelude.{◌≡◌, ◌<◌, true, map, IfOk, IfErr, length};
 ghost use Rattle.std.specs.List.{list_all};
-ghost use Rattle.pw_defs.specs.declared.conditions.Cond.TheVariants.{Is, On, Not};
+ghost use Rattle.pw_defs.specs.declared.conditions.Cond.TheVariants.{Not};
 ghost use Rattle.supply_defs.specs.Conditions.{speaks_below};
 ghost use Rattle.diagram_defs.specs.Diagrams.{IsNumberFor};
 ghost use Rattle.diagram_defs.specs.Parts.{GrowsBy, IsPartOf};
 ghost use Rattle.diagram_defs.specs.Answers.{IsCause};
 ghost use Rattle.state_build.specs.Built.{built_set, joined_cond};
 ghost use Rattle.state_build.specs.Entries.{IsPartOfEntry};
+ghost use Rattle.state_build.specs.ValueTests.{value_set};
 ghost use Rattle.diagram_defs.specs.Locals.{IsLocalFor};
 
 use crate::levels::{ValueTest, chosen};
-use crate::locals::{everything, gathered};
+use crate::locals::everything;
 use crate::pairs::apart;
 use diagram_defs::{Local, Quantifier};
 use pw_defs::{Cond, DiagFault, List, Value};
 use state_diagrams::Pool;
+use state_meets::joined;
 
 /// The number of the whole states at which the condition holds, by the values that their indices stand for. There is
 /// a list of values for each level, and the condition's supplies are levels. A condition inside is built from the
 /// least supply on that it speaks of, and all parts of an `All` or an `Any` are joined at once.
 ///
 /// `Bound` comes only where the table is full and one of these has no node: a part of the condition's set, or of the
-/// set of a condition inside it.
+/// set of a condition inside it, or of what first ones of the parts of an `All` or an `Any` make.
 pub fn build(pool: &mut Pool, lists: &[List<Value>], cond: &Cond) -> Result<u32, DiagFault>
     requires lists { map length lists.now ≡ pool.old.arities }
     requires levels { speaks_below (length lists.now) cond.now ≡ true }
@@ -46,8 +48,8 @@ pub fn local_of(pool: &mut Pool, lists: &[List<Value>], cond: &Cond) -> Result<L
 {
     match cond {
         Cond::True => Ok(everything(pool)),
-        Cond::Is { supply, value } => is_at(pool, lists, *supply, *value),
-        Cond::On { supply } => is_on(pool, lists, *supply),
+        Cond::Is { supply, value } => value_states(pool, lists, *supply, ValueTest::Is(*value)),
+        Cond::On { supply } => value_states(pool, lists, *supply, ValueTest::On),
         Cond::Apart { low, high, above } => apart(pool, lists, *low, *high, *above),
         Cond::Not(part) => negated(pool, lists, part.get()),
         Cond::All(parts) => joined_of(pool, lists, Quantifier::All, parts.as_slice()),
@@ -55,35 +57,21 @@ pub fn local_of(pool: &mut Pool, lists: &[List<Value>], cond: &Cond) -> Result<L
     }
 }
 
-/// The whole states at which a supply has a value.
-fn is_at(
+/// The whole states at which the value of a supply passes a test.
+fn value_states(
     pool: &mut Pool,
     lists: &[List<Value>],
     supply: u32,
-    value: Value,
+    test: ValueTest,
 ) -> Result<Local, DiagFault>
     requires lists { map length lists.now ≡ pool.old.arities }
     requires level { supply < length lists.now }
-    ensures number { IfOk result (λ local. IsLocalFor pool.new (built_set pool.old.arities lists.now (Is supply value)) local) }
-    ensures grows { GrowsBy (IsPartOf (length pool.old.arities) 0 (built_set pool.old.arities lists.now (Is supply value))) pool.old pool.new }
-    ensures cause { IfErr result (IsCause pool.new (IsPartOf (length pool.old.arities) 0 (built_set pool.old.arities lists.now (Is supply value)))) }
+    ensures number { IfOk result (λ local. IsLocalFor pool.new (value_set pool.old.arities lists.now supply test) local) }
+    ensures grows { GrowsBy (IsPartOf (length pool.old.arities) 0 (value_set pool.old.arities lists.now supply test)) pool.old pool.new }
+    ensures cause { IfErr result (IsCause pool.new (IsPartOf (length pool.old.arities) 0 (value_set pool.old.arities lists.now supply test))) }
 {
     let values = lists[supply as usize].as_slice();
-    let number = chosen(pool, supply, values, ValueTest::Is(value))?;
-    let level = supply;
-    Ok(Local { level, number })
-}
-
-/// The whole states at which a supply is on.
-fn is_on(pool: &mut Pool, lists: &[List<Value>], supply: u32) -> Result<Local, DiagFault>
-    requires lists { map length lists.now ≡ pool.old.arities }
-    requires level { supply < length lists.now }
-    ensures number { IfOk result (λ local. IsLocalFor pool.new (built_set pool.old.arities lists.now (On supply)) local) }
-    ensures grows { GrowsBy (IsPartOf (length pool.old.arities) 0 (built_set pool.old.arities lists.now (On supply))) pool.old pool.new }
-    ensures cause { IfErr result (IsCause pool.new (IsPartOf (length pool.old.arities) 0 (built_set pool.old.arities lists.now (On supply)))) }
-{
-    let values = lists[supply as usize].as_slice();
-    let number = chosen(pool, supply, values, ValueTest::On)?;
+    let number = chosen(pool, supply, values, test)?;
     let level = supply;
     Ok(Local { level, number })
 }
@@ -103,8 +91,8 @@ fn negated(pool: &mut Pool, lists: &[List<Value>], part: &Cond) -> Result<Local,
     Ok(Local { level, number })
 }
 
-/// The whole states at which all of the conditions hold, or any of them. One walk over the sets of all finds them, so
-/// that no set of the first ones alone is made.
+/// The whole states at which all of the conditions hold, or any of them. One walk over the sets of all finds them, unless
+/// it would grow too large.
 #[cycle(local_of)]
 fn joined_of(
     pool: &mut Pool,
@@ -123,5 +111,5 @@ fn joined_of(
         let set = local_of(pool, lists, part)?;
         sets.push(set)?;
     }
-    gathered(pool, which, sets.as_slice())
+    joined(pool, which, sets.as_slice())
 }

@@ -3,7 +3,9 @@
 
 mod conditions;
 mod levels;
+mod listed;
 mod locals;
 mod pairs;
 
 pub use conditions::{build, local_of};
+pub use listed::legal_listed;

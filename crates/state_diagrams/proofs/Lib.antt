@@ -6,3 +6,4 @@ pub mod Levels
 pub mod Memo
 pub mod Shapes
 pub mod OneNumber
+pub mod PartCounts

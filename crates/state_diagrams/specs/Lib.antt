@@ -1,3 +1,4 @@
+pub mod Counts
 pub mod Joins
 pub mod Masks
 pub mod Nodes

@@ -7,6 +7,7 @@ ghost use Rattle.diagram_defs.specs.Answers.{MakesSet};
 ghost use Rattle.state_diagrams.specs.Nodes.{shape, IsNumberOf, IsAbsent, IsPut, IsRefusal, HasNoKid};
 ghost use Rattle.state_diagrams.specs.Remembered.{IsRemembered};
 ghost use Rattle.state_diagrams.specs.Uniqueness.{HasOneNumberEach};
+ghost use Rattle.state_diagrams.specs.Counts.{CountsParts};
 
 use crate::joins::Task;
 use crate::nodes::{Node, find, put};
@@ -114,6 +115,14 @@ impl Pool {
     /// Says that numbers of a level are equal exactly where their sets are, so that sets may be compared by number.
     pub fn one_number(&self)
         ensures { HasOneNumberEach self.now }
+    {
+        let _count = self.nodes();
+    }
+
+    /// Says that `Bound` has its cause in the sets: where the table is full with parts of some sets alone, and one of their
+    /// parts has no node, they have more different parts than the table may have nodes.
+    pub fn counts_parts(&self)
+        ensures { CountsParts self.now }
     {
         let _count = self.nodes();
     }

@@ -1,3 +1,5 @@
+pub mod Endings
+pub mod FrontLemmas
 pub mod Meetings
 pub mod Meets
 pub mod Padding

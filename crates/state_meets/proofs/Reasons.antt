@@ -1,9 +1,10 @@
 -- What a walk leaves where it has no result.
 use Rattle.std.proofs.Common.{◌≡◌, ℕ, Bool, List, sym, subst, Result, Ok, Err, IsErrAnd}
+use Rattle.plain_lists.specs.declared.faults.DiagFault.{DiagFault}
 use Rattle.plain_lists.specs.declared.faults.DiagFault.TheVariants.{Memory}
 use Rattle.diagram_defs.specs.Diagrams.{Diagram}
 use Rattle.diagram_defs.specs.Parts.{GrowsBy}
-use Rattle.diagram_defs.specs.Answers.{Yields}
+use Rattle.diagram_defs.specs.Answers.{IsCause, Yields}
 use Rattle.diagram_defs.proofs.PartLemmas.{GrowsBy_step, IsCause_wider}
 use Rattle.state_meets.specs.declared.faults.GatherFault.{GatherFault}
 use Rattle.state_meets.specs.declared.faults.GatherFault.TheVariants.{GivenUp, Table}
@@ -32,3 +33,7 @@ walk_last {Allowed = Allowed} {Smaller = Smaller} {old = old} {mid = mid} {new =
     (GrowsBy_step Allowed Smaller old mid new before wider after.0, right x after.1)
 walk_last {Allowed = Allowed} {Smaller = Smaller} {old = old} {mid = mid} {new = new} Right Wanted (Err e) before wider right after =
     (GrowsBy_step Allowed Smaller old mid new before wider after.0, reason_wider Allowed Smaller wider new e after.1)
+
+-- the cause of a fault of the table
+pub table_cause : (d : Diagram) (Allowed : ℕ → (List ℕ → Bool) → Type 0) (e : GatherFault) (fault : DiagFault) → e ≡ Table fault → IsReason d Allowed e → IsCause d Allowed fault
+table_cause d Allowed e fault is why = subst (IsReason d Allowed) is why

@@ -79,7 +79,7 @@ IsSpread_more d sets begun new local is put before = record {
     last q nodes state =
         quantified_first q (λ (s : Local). member nodes s.number (drop s.level state)) local [] ∙ ap (quantified_two q (member nodes local.number (drop local.level state))) (quantified_nothing q (λ (s : Local). member nodes s.number (drop s.level state))) ∙ two_none q (member nodes local.number (drop local.level state))
 
-none_first : (q : Quantifier) (b : Bool) → quantified_two q (quantified_none q) b ≡ b
+pub none_first : (q : Quantifier) (b : Bool) → quantified_two q (quantified_none q) b ≡ b
 none_first which.All b = refl
 none_first which.Any b = refl
 

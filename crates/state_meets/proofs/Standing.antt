@@ -10,7 +10,7 @@ use Rattle.diagram_defs.proofs.Quantifying.{quantified_append, quantified_first,
 use Rattle.state_meets.specs.Walks.{meet, Stands, constant_set}
 
 module _ (d : Diagram) (q : Quantifier) (level : ℕ) where
-  alone : (n : ℕ) (rest : List ℕ) → meet q d.nodes (n ∷ []) rest ≡ member d.nodes n rest
+  pub alone : (n : ℕ) (rest : List ℕ) → meet q d.nodes (n ∷ []) rest ≡ member d.nodes n rest
   alone n rest =
       quantified_first q (λ m. member d.nodes m rest) n [] ∙ ap (quantified_two q (member d.nodes n rest)) (quantified_nothing q (λ m. member d.nodes m rest)) ∙ two_none q (member d.nodes n rest)
 

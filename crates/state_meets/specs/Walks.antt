@@ -1,5 +1,5 @@
 -- Several sets at once, where some begin at later levels.
-use Rattle.std.specs.Prelude.{◌≡◌, ℕ, ◌+◌, Bool, true, ◌&&◌, List, [], ◌∷◌, ◌++◌, All, map, drop, slice_index_or}
+use Rattle.std.specs.Prelude.{◌≡◌, ℕ, ◌+◌, ◌≤◌, Bool, true, ◌&&◌, List, [], ◌∷◌, ◌++◌, All, map, drop, slice_index_or}
 use Rattle.diagram_defs.specs.declared.quantifiers.Quantifier.{Quantifier}
 use Rattle.diagram_defs.specs.Diagrams.{Diagram, Shape, IsSet, kid, member}
 use Rattle.diagram_defs.specs.Sets.{full_set}
@@ -26,6 +26,10 @@ AreSets d level numbers = All (IsSet d level) numbers
 -- from a level on, each list has numbers of its level
 abbrev pub AreBegun : Diagram → ℕ → List (List ℕ) → Type 0
 AreBegun d level begun = (k : ℕ) → AreSets d (level + k) (slice_index_or begun k [])
+
+-- from the level on nothing begins
+abbrev pub IsOver : List (List ℕ) → ℕ → Type 0
+IsOver begun level = (k : ℕ) → level ≤ k → slice_index_or begun k [] ≡ []
 
 -- all rests of a level, or none
 abbrev pub constant_set : Diagram → ℕ → Bool → List ℕ → Bool

@@ -1,9 +1,10 @@
 //! What a walk over several sets knows before it begins.
 
-ghost use Rattle.std.specs.Prelude.{◌≡◌, ◌≤◌, ◌<◌, ◌+◌, ◌++◌, [], ◌∷◌, ℕ, List, IfOk, OnOk, map, set, replicate, length, slice_index_or};
+ghost use Rattle.std.specs.Prelude.{◌≡◌, ◌≤◌, ◌<◌, ◌+◌, ◌++◌, [], ◌∷◌, ℕ, List, IsTrue, IfOk, OnOk, map, set, replicate, length, slice_index_or};
 ghost use Rattle.diagram_defs.specs.Diagrams.{IsPool, IsSet};
 ghost use Rattle.diagram_defs.specs.Locals.{AreLocals};
 ghost use Rattle.state_meets.specs.Gathered.{begun_of, padded};
+ghost use Rattle.state_meets.specs.Walks.{IsOver};
 ghost use Rattle.state_meets.specs.Planned.{IsPlanFor, IsSpread, AreWithin};
 
 use diagram_defs::{Local, Quantifier};
@@ -62,6 +63,20 @@ pub fn begun_at(plan: &Plan, level: u32) -> &[u32]
         return &[];
     }
     plan.begun[at].as_slice()
+}
+
+/// Whether nothing begins at a level or behind it.
+pub fn is_over(plan: &Plan, level: u32) -> bool
+    ensures { IsTrue result → IsOver (begun_of plan.now) level }
+{
+    if level < plan.before {
+        return false;
+    }
+    let at = (level - plan.before) as usize;
+    if at < plan.begun.len() {
+        return false;
+    }
+    true
 }
 
 /// The levels from the first one at which a set begins to the last one; the end alone where no set is given.

@@ -1,6 +1,6 @@
 //! Tuples of numbers of one level, which say what is left to be found behind a front.
 
-ghost use Rattle.std.specs.Prelude.{◌≡◌, ◌≤◌, ◌<◌, ◌+◌, ◌++◌, [], ◌∷◌, ℕ, List, Bool, IsTrue, IfOk, OnOk, Contains, length, map, slice_index};
+ghost use Rattle.std.specs.Prelude.{◌≡◌, ◌≤◌, ◌<◌, ◌+◌, ◌++◌, [], ◌∷◌, ℕ, List, Bool, IsTrue, IfOk, IfSome, OnOk, Contains, length, map, slice_index};
 ghost use Rattle.diagram_defs.specs.Diagrams.{IsPool, IsSet, IsNumberFor, kid};
 ghost use Rattle.diagram_defs.specs.Quantified.{deciding, quantified_none};
 ghost use Rattle.state_meets.specs.Walks.{AreSets, Stands, constant_set};
@@ -150,6 +150,18 @@ pub fn is_constant(pool: &Pool, stage: Stage, n: u32, holds: bool) -> bool
     } else {
         n == 0
     }
+}
+
+/// The number of all rests of a level, where `holds`, or else of none; no number where it isn't known.
+pub fn constant_number(pool: &Pool, stage: Stage, holds: bool) -> Option<u32>
+    requires { IsFullNumber pool.now stage.level stage.full }
+    ensures { IfSome result (IsNumberFor pool.now stage.level (constant_set pool.now stage.level holds)) }
+{
+    let n = if holds { stage.full } else { 0 };
+    if is_constant(pool, stage, n, holds) {
+        return Some(n);
+    }
+    None
 }
 
 /// The answer of one set that settles whether a state is in all sets, or in any.

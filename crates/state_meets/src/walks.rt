@@ -1,8 +1,8 @@
 //! The walk: what several sets make together, tuple by tuple, each tuple once.
 
-ghost use Rattle.std.specs.Prelude.{◌≡◌, ◌≤◌, ◌<◌, ◌+◌, ℕ, List, IfOk, IfSome, IfNone, length, nat_eq};
+ghost use Rattle.std.specs.Prelude.{◌≡◌, ◌≤◌, ◌<◌, ◌+◌, ℕ, List, [], ◌∷◌, IfOk, IfSome, IfNone, length, nat_eq};
 ghost use Rattle.std.specs.List.{list_all, list_any};
-ghost use Rattle.diagram_defs.specs.Diagrams.{Diagram, IsPool, IsNumberFor, AreKidsFor};
+ghost use Rattle.diagram_defs.specs.Diagrams.{Diagram, IsPool, IsSet, IsNumberFor, AreKidsFor};
 ghost use Rattle.diagram_defs.specs.Parts.{IsPartOf};
 ghost use Rattle.diagram_defs.specs.Answers.{Yields};
 ghost use Rattle.diagram_defs.specs.Quantified.{quantified};
@@ -12,8 +12,10 @@ ghost use Rattle.state_meets.specs.Gathered.{IsPlan, IsReason, begun_of};
 ghost use Rattle.state_meets.specs.Memos.{IsMemo, IsRemembered};
 
 use crate::faults::GatherFault;
-use crate::plans::Plan;
-use crate::tuples::{Stage, Tuple, decides, full_number, is_constant, tuple_behind};
+use crate::plans::{Plan, is_over};
+use crate::tuples::{
+    Stage, Tuple, constant_number, decides, full_number, is_constant, tuple_behind,
+};
 use diagram_defs::Quantifier;
 use smallvec::SmallVec;
 use state_diagrams::Pool;
@@ -101,17 +103,47 @@ fn known(pool: &Pool, plan: &Plan, memo: &HashMap<Tuple, u32>, tuple: &Tuple) ->
     memo.get(tuple).copied()
 }
 
-/// The number of a tuple that has one which decides.
+/// The number of a tuple, where its numbers alone show it: one of them decides, or there is at most one and no set begins
+/// later.
 fn decided(pool: &Pool, plan: &Plan, tuple: &Tuple) -> Option<u32>
-    requires { IsPlan pool.now plan.now }
+    requires level_in { tuple.now.level < length pool.now.arities }
+    requires sets { AreSets pool.now tuple.now.level tuple.now.numbers.items }
     ensures { IfSome result (IsNumberFor pool.now tuple.now.level (walk_set pool.now plan.now.which (begun_of plan.now) tuple.now.level tuple.now.numbers.items)) }
 {
     let numbers = tuple.numbers.as_slice();
-    if numbers.len() != 1 {
+    if numbers.len() > 1 {
         return None;
     }
-    let n = numbers[0];
-    let level = tuple.level;
+    if numbers.is_empty() {
+        return number_of_none(pool, plan, tuple.level);
+    }
+    number_of_one(pool, plan, tuple.level, numbers[0])
+}
+
+/// The number of no numbers, where no set begins later: all rests are in all of no sets, and none is in any of them.
+fn number_of_none(pool: &Pool, plan: &Plan, level: u32) -> Option<u32>
+    requires { level < length pool.now.arities }
+    ensures { IfSome result (IsNumberFor pool.now level (walk_set pool.now plan.now.which (begun_of plan.now) level [])) }
+{
+    let _alloc = pool.allocator();
+    if is_over(plan, level + 1) {
+        let full = full_number(pool, level);
+        let n = constant_number(pool, Stage { level, full }, !decides(plan.which))?;
+        return Some(n);
+    }
+    None
+}
+
+/// The number of one number, where no set begins later, or where it decides.
+fn number_of_one(pool: &Pool, plan: &Plan, level: u32, n: u32) -> Option<u32>
+    requires level_in { level < length pool.now.arities }
+    requires number { IsSet pool.now level n }
+    ensures { IfSome result (IsNumberFor pool.now level (walk_set pool.now plan.now.which (begun_of plan.now) level (n ∷ []))) }
+{
+    let _alloc = pool.allocator();
+    if is_over(plan, level + 1) {
+        return Some(n);
+    }
     let full = full_number(pool, level);
     if is_constant(pool, Stage { level, full }, n, decides(plan.which)) {
         return Some(n);

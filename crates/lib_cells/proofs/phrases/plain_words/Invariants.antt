@@ -1,15 +1,17 @@
-use Rattle.std.proofs.Common.{◌≤◌, length}
+use Rattle.std.proofs.Common.{◌≡◌, ◌≤◌, ◌-◌, length}
+use Rattle.text_defs.specs.Grammar.{read}
+use Rattle.text_defs.specs.Phrases.{many}
 use Rattle.text_defs.specs.Tokens.{of_class, one_of}
-use Rattle.text_streams.proofs.AnswerLaws.{Keeps}
 use Rattle.lib_cells.specs.Groups.{is_plain_word}
-use Rattle.lib_cells.specs.Streams.{word_view}
+use Rattle.lib_cells.specs.Kept.{are_some, seen}
+use Rattle.lib_cells.proofs.KeptLaws.{are_some_behind}
 use Rattle.lib_cells.proofs.phrases.plain_words.Given as goal
 
-abbrev pub invariant-loop-all : goal.invariant-loop-all
-invariant-loop-all l = record {
-  kept : Keeps word_view (of_class is_plain_word) (one_of is_plain_word) 4294967295 l.all l.tokens l.initial.all l.initial.tokens;
+abbrev pub invariant-loop-count : goal.invariant-loop-count
+invariant-loop-count l = record {
+  kept : seen (are_some_behind l.any) (read (many (4294967295 - l.count) (of_class is_plain_word) (one_of is_plain_word)) l.tokens) ≡ seen are_some (read (many 4294967295 (of_class is_plain_word) (one_of is_plain_word)) l.initial.tokens);
   longer : length l.tokens ≤ length l.initial.tokens;
 }
 
-abbrev pub decreases-loop-all : goal.decreases-loop-all
-decreases-loop-all l = length l.tokens
+abbrev pub decreases-loop-count : goal.decreases-loop-count
+decreases-loop-count l = length l.tokens

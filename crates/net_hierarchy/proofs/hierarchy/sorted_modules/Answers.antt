@@ -9,7 +9,7 @@ returns-then-has_unknown c s types named apart =
     let found : IsOrder c.args.types.now c.args.top order = rw c.in-Some.is at c.in_ok-order.ensures in
     let is = subst (λ t. IsOrder t c.args.top order) types found in
     let has = subst (λ xs. HasUnknown c.args.types.now xs) c.as_slice.ensures.value (c.has_unknown.ensures.0 c.if-has_unknown.true) in
-    (no_recursion s c.args.top named order is, unknown_of_order s apart c.args.top named order is (subst (λ t. HasUnknown t order) types has))
+    (no_recursion s c.args.top named order is, unknown_of_order s apart c.args.top named order is (subst (λ t. HasUnknown t order) types has), is)
 
 pub returns-else-has_unknown : goal.returns-else-has_unknown
 returns-else-has_unknown c s types named apart =

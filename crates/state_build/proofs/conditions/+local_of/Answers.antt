@@ -1,4 +1,4 @@
-use Rattle.std.proofs.Common.{rules, ◌≡◌, ◌+◌, ◌≤◌, ℕ, Bool, not, ◌&&◌, List, [], take, length, sym, ap, ◌∙◌, subst, refl, Some, inl, inr, arith}
+use Rattle.std.proofs.Common.{rules, ◌≡◌, ◌+◌, ◌≤◌, ℕ, Bool, not, ◌&&◌, List, [], take, length, sym, ap, ◌∙◌, subst, refl, Some, inl, inr, Result, Ok, Err, IfOk, arith}
 use Rattle.std.specs.List.{slice_get}
 use Rattle.std.proofs.lemmas.Bool.{and_parts, ltb-true}
 use Rattle.std.proofs.lemmas.Option.{slice_get_read}
@@ -7,14 +7,18 @@ use Rattle.pw_defs.specs.declared.conditions.Cond.{Cond, the_lemmas}
 use Rattle.pw_defs.specs.declared.conditions.Cond.TheVariants.{Not, All, Any}
 use Rattle.supply_defs.specs.Conditions.{speaks_below}
 use Rattle.supply_defs.proofs.Meaning.{speaks_is, speaks_on, speaks_apart, speaks_not, speaks_all, speaks_any}
+use Rattle.plain_lists.specs.declared.faults.DiagFault.{DiagFault}
+use Rattle.diagram_defs.specs.declared.locals.Local.{Local}
+use Rattle.state_build.specs.declared.levels.ValueTest.TheVariants as tests
 use Rattle.diagram_defs.specs.Rests.{is_rest}
 use Rattle.diagram_defs.specs.Diagrams.{Diagram}
 use Rattle.diagram_defs.specs.Sets.{complement_set, widened_set}
 use Rattle.diagram_defs.specs.Parts.{GrowsBy, IsPartOf}
-use Rattle.diagram_defs.proofs.PartLemmas.{GrowsBy_none, GrowsBy_step, GrowsBy_wider, IsPartOf_grown, passed_cause, refused_wider}
+use Rattle.diagram_defs.proofs.PartLemmas.{GrowsBy_none, GrowsBy_step, GrowsBy_wider, IsPartOf_grown, IsPartOf_same, passed_cause, refused_wider}
 use Rattle.state_build.specs.Built.{built_set, joined_cond}
 use Rattle.state_build.specs.Joined.{AreBuilt}
-use Rattle.state_build.proofs.Joining.{AreBuilt_none, AreBuilt_more, gathered_built}
+use Rattle.state_build.proofs.Joining.{AreBuilt_more, built_locals, gathered_built}
+use Rattle.state_build.proofs.Singles.{value_is, value_on}
 use Rattle.state_meets.specs.Gathered.{gathered_set}
 use Rattle.diagram_defs.specs.Answers.{IsCause, Yields}
 use Rattle.diagram_defs.proofs.Yielding.{Yields_last, value_of, reason_of}
@@ -22,21 +26,21 @@ use Rattle.std.proofs.lemmas.List.{take_all}
 use Rattle.state_build.specs.Entries.{IsPartOfEntry}
 use Rattle.diagram_defs.specs.Locals.{IsLocalFor, states_from}
 use Rattle.state_build.specs.Held.{all_states}
-use Rattle.state_build.proofs.Entering.{own_parts, not_parts, joined_parts, grown_parts}
+use Rattle.state_build.proofs.Entering.{own_parts, not_parts, joined_parts, grown_parts, front_parts}
 use Rattle.diagram_defs.proofs.LocalSets.{local_grows, local_same, local_made, whole_parts}
 use Rattle.state_build.proofs.Lowering.{complement_states, complement_rests}
 use Rattle.state_build.proofs.Wholes.{built_true, built_not}
 use Rattle.state_build.proofs.conditions.+local_of.Goals as goal
-use Rattle.state_build.proofs.conditions.+local_of.Goals.{negated-After-local_of, negated-After-complement, joined_of-After-local_of, joined_of-After-as_slice, joined_of-After-gathered}
+use Rattle.state_build.proofs.conditions.+local_of.Goals.{negated-After-local_of, negated-After-complement, joined_of-After-local_of, joined_of-After-as_slice, joined_of-After-joined}
 
 -- what each form of a condition asks of its callee
-pub local_of-is_at-requires-clause-level : goal.local_of-is_at-requires-clause-level
-local_of-is_at-requires-clause-level t c =
+pub local_of-value_states-requires-clause-level : goal.local_of-value_states-requires-clause-level
+local_of-value_states-requires-clause-level t c =
     let n = length c.args.lists.now in
     ltb-true c.in-Is.supply n (sym (speaks_is n c.in-Is.supply c.in-Is.value) ∙ ap (speaks_below n) (sym c.in-Is.is) ∙ c.requires.levels)
 
-pub local_of-is_on-requires-clause-level : goal.local_of-is_on-requires-clause-level
-local_of-is_on-requires-clause-level t c =
+pub local_of-value_states-requires-in-On-clause-level : goal.local_of-value_states-requires-in-On-clause-level
+local_of-value_states-requires-in-On-clause-level t c =
     let n = length c.args.lists.now in
     ltb-true c.in-On.supply n (sym (speaks_on n c.in-On.supply) ∙ ap (speaks_below n) (sym c.in-On.is) ∙ c.requires.levels)
 
@@ -74,21 +78,38 @@ local_of-returns-in-True-clause-number t c =
 pub local_of-returns-in-True-clause-grows : goal.local_of-returns-in-True-clause-grows
 local_of-returns-in-True-clause-grows t c = GrowsBy_none _ c.args.pool.now c.everything.ensures.pool
 
+-- the set of a form by another test
+value_set_is : (arities : List ℕ) (lists : List (List Value)) (cond form : Cond) {set : List ℕ → Bool} → cond ≡ form → ((state : List ℕ) → set state ≡ built_set arities lists form state) → (state : List ℕ) → set state ≡ built_set arities lists cond state
+value_set_is arities lists cond form is agree state = agree state ∙ ap (λ (f : Cond). built_set arities lists f state) (sym is)
+
+same_local : (d : Diagram) (set other : List ℕ → Bool) (r : Result Local DiagFault) → ((state : List ℕ) → set state ≡ other state) → IfOk r (IsLocalFor d set) → IfOk r (IsLocalFor d other)
+same_local d set other (Ok local) agree is = local_same d set other local agree is
+same_local d set other (Err e) agree is = tt
+
+own_value : (old : Diagram) (lists : List (List Value)) (cond form : Cond) (set : List ℕ → Bool) → cond ≡ form → ((state : List ℕ) → set state ≡ built_set old.arities lists form state) → (l : ℕ) (part : List ℕ → Bool) → IsPartOf (length old.arities) 0 set l part → IsPartOfEntry old.arities lists cond l part
+own_value old lists cond form set is agree l part p = own old lists cond form is l part (IsPartOf_same (length old.arities) 0 set (built_set old.arities lists form) l part agree p)
+
+pub local_of-returns-in-Is-clause-number : goal.local_of-returns-in-Is-clause-number
+local_of-returns-in-Is-clause-number t c = same_local c.value_states.new.pool _ _ c.value_states.result (value_set_is _ _ _ _ c.in-Is.is (value_is c.args.pool.now.arities c.args.lists.now c.in-Is.supply c.in-Is.value)) c.value_states.ensures.number
+
 pub local_of-returns-in-Is-clause-grows : goal.local_of-returns-in-Is-clause-grows
 local_of-returns-in-Is-clause-grows t c =
-    GrowsBy_wider _ _ c.args.pool.now c.is_at.new.pool (own c.args.pool.now c.args.lists.now c.args.cond.now _ c.in-Is.is) c.is_at.ensures.grows
+    GrowsBy_wider _ _ c.args.pool.now c.value_states.new.pool (own_value c.args.pool.now c.args.lists.now c.args.cond.now _ _ c.in-Is.is (value_is c.args.pool.now.arities c.args.lists.now c.in-Is.supply c.in-Is.value)) c.value_states.ensures.grows
 
 pub local_of-returns-in-Is-clause-cause : goal.local_of-returns-in-Is-clause-cause
 local_of-returns-in-Is-clause-cause t c =
-    refused_wider _ _ c.is_at.new.pool c.is_at.result (own c.args.pool.now c.args.lists.now c.args.cond.now _ c.in-Is.is) c.is_at.ensures.cause
+    refused_wider _ _ c.value_states.new.pool c.value_states.result (own_value c.args.pool.now c.args.lists.now c.args.cond.now _ _ c.in-Is.is (value_is c.args.pool.now.arities c.args.lists.now c.in-Is.supply c.in-Is.value)) c.value_states.ensures.cause
+
+pub local_of-returns-in-On-clause-number : goal.local_of-returns-in-On-clause-number
+local_of-returns-in-On-clause-number t c = same_local c.value_states-in-On.new.pool _ _ c.value_states-in-On.result (value_set_is _ _ _ _ c.in-On.is (value_on c.args.pool.now.arities c.args.lists.now c.in-On.supply)) c.value_states-in-On.ensures.number
 
 pub local_of-returns-in-On-clause-grows : goal.local_of-returns-in-On-clause-grows
 local_of-returns-in-On-clause-grows t c =
-    GrowsBy_wider _ _ c.args.pool.now c.is_on.new.pool (own c.args.pool.now c.args.lists.now c.args.cond.now _ c.in-On.is) c.is_on.ensures.grows
+    GrowsBy_wider _ _ c.args.pool.now c.value_states-in-On.new.pool (own_value c.args.pool.now c.args.lists.now c.args.cond.now _ _ c.in-On.is (value_on c.args.pool.now.arities c.args.lists.now c.in-On.supply)) c.value_states-in-On.ensures.grows
 
 pub local_of-returns-in-On-clause-cause : goal.local_of-returns-in-On-clause-cause
 local_of-returns-in-On-clause-cause t c =
-    refused_wider _ _ c.is_on.new.pool c.is_on.result (own c.args.pool.now c.args.lists.now c.args.cond.now _ c.in-On.is) c.is_on.ensures.cause
+    refused_wider _ _ c.value_states-in-On.new.pool c.value_states-in-On.result (own_value c.args.pool.now c.args.lists.now c.args.cond.now _ _ c.in-On.is (value_on c.args.pool.now.arities c.args.lists.now c.in-On.supply)) c.value_states-in-On.ensures.cause
 
 pub local_of-returns-in-Apart-clause-grows : goal.local_of-returns-in-Apart-clause-grows
 local_of-returns-in-Apart-clause-grows t c =
@@ -145,7 +166,7 @@ joined_of-loop-part-init t c = record {
   grows = GrowsBy_none _ c.args.pool.now c.allocator.ensures;
   sets =
       let old = c.args.pool.now in
-      subst (AreBuilt old old.arities c.args.lists.now []) (sym c.new-sets.ensures.items) (AreBuilt_none old.arities c.args.lists.now old);
+      subst (AreBuilt old old.arities c.args.lists.now []) (sym c.new-sets.ensures.items) tt;
 }
 
 part_there : (t : ℕ) (c : joined_of-After-local_of t) → slice_get c.args.parts.now c.loop-part.part-index ≡ Some c.part-item.result
@@ -201,28 +222,30 @@ all_built t c =
     let all = subst (λ (conds : List Cond). AreBuilt mid arities lists conds c.loop-part.sets.items) (take_all c.loop-part.part-index parts past) c.loop-part.invariant.sets in
     subst (AreBuilt mid arities lists parts) (sym c.as_slice.ensures.value) all
 
-pub joined_of-gathered-requires : goal.joined_of-gathered-requires
-joined_of-gathered-requires t c = (all_built t (goal.at.joined_of-gathered-requires t c).After-as_slice).locals
+pub joined_of-joined-requires : goal.joined_of-joined-requires
+joined_of-joined-requires t c =
+    built_locals c.args.pool.now.arities c.args.lists.now c.loop-part.pool c.args.parts.now c.as_slice.result.now (all_built t (goal.at.joined_of-joined-requires t c).After-as_slice)
 
-joined : (t : ℕ) (c : joined_of-After-gathered t)
-    → Yields (IsPartOfEntry c.args.pool.now.arities c.args.lists.now (joined_cond c.args.which c.args.parts.now)) c.args.pool.now c.gathered.new.pool (IsLocalFor c.gathered.new.pool (built_set c.args.pool.now.arities c.args.lists.now (joined_cond c.args.which c.args.parts.now))) (IsCause c.gathered.new.pool (IsPartOfEntry c.args.pool.now.arities c.args.lists.now (joined_cond c.args.which c.args.parts.now))) c.gathered.result
+joined : (t : ℕ) (c : joined_of-After-joined t)
+    → Yields (IsPartOfEntry c.args.pool.now.arities c.args.lists.now (joined_cond c.args.which c.args.parts.now)) c.args.pool.now c.joined.new.pool (IsLocalFor c.joined.new.pool (built_set c.args.pool.now.arities c.args.lists.now (joined_cond c.args.which c.args.parts.now))) (IsCause c.joined.new.pool (IsPartOfEntry c.args.pool.now.arities c.args.lists.now (joined_cond c.args.which c.args.parts.now))) c.joined.result
 joined t c =
     let old = c.args.pool.now in
     let mid = c.loop-part.pool in
-    let new = c.gathered.new.pool in
+    let new = c.joined.new.pool in
     let lists = c.args.lists.now in
     let cond = joined_cond c.args.which c.args.parts.now in
     let sets = c.as_slice.result.now in
     let g = c.loop-part.invariant.grows.grows in
     let gathered = gathered_set mid c.args.which sets in
-    let agree : (state : List ℕ) → gathered state ≡ built_set old.arities lists cond state = λ state. gathered_built old.arities lists mid c.args.which c.args.parts.now sets state g.arities (all_built t (goal.at-joined_of-After-gathered t c).After-as_slice) in
-    Yields_last (IsLocalFor new gathered) (IsLocalFor new (built_set old.arities lists cond)) c.gathered.result c.loop-part.invariant.grows (λ l part p. own_parts old.arities lists cond l part (IsPartOf_grown old mid 0 gathered (built_set old.arities lists cond) g agree l part p)) (λ local is. local_same new gathered (built_set old.arities lists cond) local agree is) c.gathered.ensures
+    let built = all_built t (goal.at-joined_of-After-joined t c).After-as_slice in
+    let agree : (state : List ℕ) → gathered state ≡ built_set old.arities lists cond state = λ state. gathered_built old.arities lists mid c.args.which c.args.parts.now sets state g.arities built in
+    Yields_last (IsLocalFor new gathered) (IsLocalFor new (built_set old.arities lists cond)) c.joined.result c.loop-part.invariant.grows (front_parts old mid lists c.args.which c.args.parts.now sets g built) (λ local is. local_same new gathered (built_set old.arities lists cond) local agree is) c.joined.ensures
 
 pub joined_of-returns-clause-number : goal.joined_of-returns-clause-number
-joined_of-returns-clause-number t c = value_of _ _ c.gathered.result (joined t (goal.at.joined_of-returns-clause-number t c).After-gathered)
+joined_of-returns-clause-number t c = value_of _ _ c.joined.result (joined t (goal.at.joined_of-returns-clause-number t c).After-joined)
 
 pub joined_of-returns-clause-grows : goal.joined_of-returns-clause-grows
-joined_of-returns-clause-grows t c = (joined t (goal.at.joined_of-returns-clause-grows t c).After-gathered).0
+joined_of-returns-clause-grows t c = (joined t (goal.at.joined_of-returns-clause-grows t c).After-joined).0
 
 pub joined_of-returns-clause-cause : goal.joined_of-returns-clause-cause
-joined_of-returns-clause-cause t c = reason_of _ _ c.gathered.result (joined t (goal.at.joined_of-returns-clause-cause t c).After-gathered)
+joined_of-returns-clause-cause t c = reason_of _ _ c.joined.result (joined t (goal.at.joined_of-returns-clause-cause t c).After-joined)

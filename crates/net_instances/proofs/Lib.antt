@@ -1,0 +1,5 @@
+pub mod DownLemmas
+pub mod TextLemmas
+pub mod TreeLemmas
+pub mod RowsInOrder
+pub mod AllInstances

@@ -1,0 +1,4 @@
+pub mod AllUnder
+pub mod Sizing
+pub mod More
+pub mod Deep

@@ -1,0 +1,11 @@
+pub mod LeafParts
+pub mod Mentioning
+pub mod Placing
+pub mod Owning
+pub mod Steps
+pub mod Parts
+pub mod Wholes
+pub mod BitLaws
+pub mod Starting
+pub mod Indexing
+pub mod Adding

@@ -1,0 +1,8 @@
+use Rattle.std.proofs.Common.{take}
+use Rattle.module_rows.specs.Reads.{module_at}
+use Rattle.net_places.specs.Gathered.{Gathers}
+use Rattle.net_places.specs.Mentions.{of_ports}
+use Rattle.net_places.proofs.lines.mention_ports.Given as goal
+
+abbrev pub invariant-loop-number : goal.invariant-loop-number
+invariant-loop-number l = Gathers l.modules.symbols l.mark l.initial.gathering l.gathering (of_ports 0 (take l.number (module_at l.modules l.holder).ports))

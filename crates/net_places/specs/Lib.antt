@@ -1,0 +1,6 @@
+pub mod Terms
+pub mod Nets
+pub mod Mentions
+pub mod Gathered
+pub mod Tables
+pub mod Plans

@@ -1,5 +1,5 @@
 -- Ways that begin with the same instance are in the order of what is behind it.
-use Rattle.std.proofs.Common.{◌≡◌, ◌≢◌, ℕ, suc, List, [], ◌∷◌, ◌++◌, map, refl, sym, ap, ◌∙◌, length, ◌<◌, ◌⊎◌, inl, inr, arith}
+use Rattle.std.proofs.Common.{◌≡◌, ◌≢◌, ℕ, suc, List, [], ◌∷◌, ◌++◌, map, refl, sym, ap, ◌∙◌, length, inl, inr, arith}
 use Rattle.std.specs.Cmp.{nat_cmp_is}
 use Rattle.std.proofs.lemmas.Bool.{cases_order}
 use Rattle.std.specs.Cmp.Lexicographic.{slice_cmp}
@@ -10,8 +10,7 @@ use Rattle.std.specs.declared.cmp.Ordering.TheVariants.{Less, Equal, Greater}
 use Rattle.list_defs.specs.Orders.{name_cmp}
 use Rattle.design_defs.specs.Hierarchy.{Way, path, paths, way_cmp}
 use Rattle.design_defs.specs.Names.{joined}
-use Rattle.net_least.specs.Links.{by_text, ends, slashed}
-use Rattle.net_least.specs.Nearest.{AreNamed}
+use Rattle.net_least.specs.Links.{AreNamed, by_text, ends, slashed}
 
 pub append_all : {X : Type 0} (xs : List X) → xs ++ [] ≡ xs
 append_all [] = refl
@@ -24,7 +23,7 @@ append_same (x ∷ xs) ys zs = ap (λ ws. x ∷ ws) (append_same xs ys zs)
 same_number : (c : ℕ) → nat_cmp c c ≡ Equal
 same_number c = sym (nat_cmp_is c c Equal refl)
 
-same_front : (name p q : List ℕ) → name_cmp (name ++ p) (name ++ q) ≡ name_cmp p q
+pub same_front : (name p q : List ℕ) → name_cmp (name ++ p) (name ++ q) ≡ name_cmp p q
 same_front [] p q = refl
 same_front (c ∷ cs) p q = ap (λ o. ordering_then o (name_cmp (cs ++ p) (cs ++ q))) (same_number c) ∙ same_front cs p q
 

@@ -2,3 +2,8 @@ pub mod TooLarge
 pub mod Fronts
 pub mod Nearer
 pub mod Spelled
+pub mod Nears
+pub mod OwnFirst
+pub mod FirstLines
+pub mod UnknownTypes
+pub mod RowItems

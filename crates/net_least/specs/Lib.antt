@@ -1,2 +1,4 @@
-pub mod Nearest
 pub mod Links
+pub mod Nearest
+pub mod OwnFaults
+pub mod Lines

@@ -5,15 +5,19 @@ use Rattle.std.specs.Ordering.{nat_cmp, ordering_then}
 use Rattle.std.specs.declared.cmp.Ordering.{Ordering}
 use Rattle.list_defs.specs.Orders.{name_cmp}
 use Rattle.design_defs.specs.Hierarchy.{Way, path}
-use Rattle.net_least.specs.Nearest.{AreNamed}
 use Rattle.net_least.specs.declared.links.Link.{Link}
 use Rattle.net_least.specs.declared.links.Text.{Text}
 
--- the way from a link on; no link is the end of a way
-pub data IsWay (links : List Link) : Option ℕ → Way → Type 0 where
-  end : (at : Option ℕ) (way : Way) → at ≡ None → way ≡ [] → IsWay links at way
-  link : (at : Option ℕ) (way : Way) (k : ℕ) (l : Link) (inner : Way) → at ≡ Some k → slice_get links k ≡ Some l → l.name ≢ []
-      → IsWay links l.next inner → way ≡ inner ++ l.name ∷ [] → IsWay links at way
+-- no name of a way is empty
+abbrev pub AreNamed : Way → Type 0
+AreNamed [] = Unit {0}
+AreNamed (name ∷ outer) = (name ≢ []) × AreNamed outer
+
+-- The way from a link on, by the spellings of symbols. No link is the end of a way.
+pub data IsWay (symbols : List (List ℕ)) (links : List Link) : Option ℕ → Way → Type 0 where
+  end : (at : Option ℕ) (way : Way) → at ≡ None → way ≡ [] → IsWay symbols links at way
+  link : (at : Option ℕ) (way : Way) (k : ℕ) (l : Link) (name : List ℕ) (inner : Way) → at ≡ Some k → slice_get links k ≡ Some l
+      → slice_get symbols l.name ≡ Some name → name ≢ [] → IsWay symbols links l.next inner → way ≡ inner ++ name ∷ [] → IsWay symbols links at way
 
 -- the path of a way with a slash before each of its names
 abbrev pub slashed : Way → List ℕ
@@ -30,11 +34,16 @@ pub record IsSpelled (t : Text) (way : Way) : Type 0 where
   pub bytes : t.bytes.items ≡ slashed way
   pub places : t.ends.items ≡ reverse (ends way)
 
+-- a text has a slash and a name more
+pub record IsLonger (old new : Text) (name : List ℕ) : Type 0 where
+  pub bytes : new.bytes.items ≡ (old.bytes.items ++ 47 ∷ []) ++ name
+  pub ends : new.ends.items ≡ old.ends.items ++ length new.bytes.items ∷ []
+
 -- a part of the way was spelled, and the rest of it goes on from a link
-pub record IsWalked (links : List Link) (way : Way) (rest : Option ℕ) (t : Text) : Type 0 where
+pub record IsWalked (symbols : List (List ℕ)) (links : List Link) (way : Way) (rest : Option ℕ) (t : Text) : Type 0 where
   pub left : Way
   pub done : Way
-  pub goes : IsWay links rest left
+  pub goes : IsWay symbols links rest left
   pub whole : way ≡ left ++ done
   pub named : AreNamed done
   pub spelled : IsSpelled t done

@@ -1,7 +1,16 @@
-//! The first fault of a hierarchy whose modules have names of their own: that of its size, and the least unknown type.
+//! The first faults of a hierarchy of which each module has a name of its own, found on the modules alone, without going to
+//! each instance: an instance of a type that isn't there, faults that a module has wherever it stands, and a design that is
+//! too large.
 #![tactic(auto)]
 
+mod firsts;
 mod links;
+mod nearest;
+mod own;
 mod size;
+mod unknown;
 
+pub use firsts::first_of_kind;
+pub use own::{OwnFault, first_own};
 pub use size::size_fault;
+pub use unknown::unknown_fault;

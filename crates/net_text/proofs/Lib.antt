@@ -9,6 +9,7 @@ pub mod RunLaws
 pub mod PieceLaws
 pub mod WordLaws
 pub mod StreamLaws
+pub mod SizeLaws
 pub mod ListLaws
 pub mod NestedLaws
 pub mod StoppedLaws

@@ -4,9 +4,9 @@ use Rattle.text_defs.specs.Grammar.{read, next, passes}
 use Rattle.text_defs.specs.Tokens.{of_class}
 use Rattle.net_text.specs.NetlistClasses.{is_left_brace}
 use Rattle.net_text.specs.NetlistGrammar.{NetlistGrammar, Lined, nested, concatenation}
-use Rattle.net_text.specs.declared.tokens.Stop.{Stop}
+use Rattle.text_streams.specs.declared.stops.Stop.{Stop}
 use Rattle.net_text.specs.declared.exprs.ExprAt.{ExprAt}
-use Rattle.net_text.specs.Answers.{Answers}
+use Rattle.text_streams.specs.Answers.{Answers}
 use Rattle.net_text.specs.ParserViews.{lined_view}
 use Rattle.net_text.proofs.ListLaws.{Tokens, answers_as}
 

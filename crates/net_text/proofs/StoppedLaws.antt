@@ -8,11 +8,9 @@ use Rattle.text_defs.specs.Grammar.{IsPhrase, read_whole, next}
 use Rattle.text_defs.specs.FirstFault.{IsFirstFault}
 use Rattle.text_defs.specs.Tokens.{Token}
 use Rattle.net_text.specs.NetlistTokens.{NetlistClass, Inout, LeftOut, netlist_tokens}
-use Rattle.net_text.specs.NetlistGrammar.{NetlistGrammar, ModuleWords, netlist}
+use Rattle.net_text.specs.NetlistGrammar.{ModuleWords, netlist}
 use Rattle.net_text.specs.NetlistFaults.{HasWords, IsCutShort, IsOther, HasNetlistFault}
-use Rattle.net_text.specs.declared.tokens.Stop.{Stop}
-use Rattle.net_text.specs.declared.tokens.Stop.TheVariants as stops
-use Rattle.net_text.specs.Stopped.{AnswersWhole, IsFaultNext, IsToldFault, fault_next, fault_of_class, place_next}
+use Rattle.net_text.specs.Stopped.{IsFaultNext, IsToldFault, fault_next, fault_of_class, place_next}
 use Rattle.net_text.proofs.NetlistLaws.{words_read, fault_read}
 
 -- a text that cannot go on has the fault that its next token is
@@ -48,10 +46,6 @@ cut text (t ∷ rest) fault = by t.class refl
     by NetlistClass.Inout e = record { left = t ∷ rest; fault = fault; of_class = ap (λ x. Some x) e; place = refl }
     by NetlistClass.LeftOut e = record { left = t ∷ rest; fault = fault; of_class = ap (λ x. Some x) e; place = refl }
     by NetlistClass.Stray e = other (λ k. cc) (λ k. cc)
-
-pub fault_stopped : {X A : Type 0} (view : X → A) (g : NetlistGrammar A) (old new : List (Token NetlistClass)) (s : Stop) → AnswersWhole view g old (Err s) new
-    → s ≡ stops.Fault → read_whole g old ≡ Err new
-fault_stopped view g old new s h e = subst (λ s. AnswersWhole view g old (Err s) new) e h
 
 pub told_words : (text : List ℕ) (tokens : List (Token NetlistClass)) (words : List ModuleWords) → tokens ≡ netlist_tokens text
     → read_whole netlist tokens ≡ Ok words → HasWords text words

@@ -3,7 +3,7 @@ use Rattle.std.specs.Prelude.{Some, None}
 use Rattle.std.specs.Option.{option_map}
 use Rattle.net_text.specs.NetlistGrammar.{Named}
 use Rattle.net_text.specs.SecondDeclarations.{Declaration, HeaderPort, PortDirection, WireName, InstanceName}
-use Rattle.net_text.specs.Answers.{named_view}
+use Rattle.net_text.specs.CommaLists.{named_view}
 use Rattle.net_text.specs.ParserViews.{shape_view}
 use Rattle.net_text.specs.declared.declarations.DeclarationAt.{DeclarationAt}
 use Rattle.net_text.specs.declared.declarations.DeclarationAt.TheVariants as made

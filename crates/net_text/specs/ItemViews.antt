@@ -1,7 +1,7 @@
 -- The items that the parsers make, as the grammar sees them.
 use Rattle.std.specs.Prelude.{map}
 use Rattle.net_text.specs.NetlistGrammar.{Item, Directions, Wires, Assigns, Instance}
-use Rattle.net_text.specs.Answers.{named_view}
+use Rattle.net_text.specs.CommaLists.{named_view}
 use Rattle.net_text.specs.ParserViews.{shape_view}
 use Rattle.net_text.specs.declared.items.ItemAt.{ItemAt}
 use Rattle.net_text.specs.declared.items.ItemAt.TheVariants as made

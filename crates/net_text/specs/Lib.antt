@@ -9,9 +9,10 @@ pub mod Runs
 pub mod PieceViews
 pub mod TokenViews
 pub mod Streams
-pub mod Answers
+pub mod Sizes
+pub mod CommaLists
 pub mod ParserViews
 pub mod ItemViews
-pub mod ModuleViews
+pub mod HeaderViews
 pub mod Stopped
 pub mod DeclarationViews

@@ -1,22 +1,12 @@
--- What the reader of a whole text answers, and the fault that it tells where it stops.
-use Rattle.std.specs.Prelude.{◌≡◌, ℕ, List, Option, Some, None, Result, Ok, Err, codes}
+-- The fault that is told of a text at the token where it stops.
+use Rattle.std.specs.Prelude.{◌≡◌, ℕ, List, Option, Some, None, codes}
 use Rattle.pw_defs.specs.declared.faults.At.{At}
 use Rattle.pw_defs.specs.declared.faults.NetFault.{NetFault}
 use Rattle.pw_defs.specs.declared.faults.NetFault.TheVariants.{N1, N2, N3, N4, Memory}
-use Rattle.text_defs.specs.Grammar.{read_whole}
 use Rattle.text_defs.specs.Lines.{last_line}
 use Rattle.text_defs.specs.Tokens.{Token}
 use Rattle.net_text.specs.NetlistTokens.{NetlistClass, Inout, LeftOut}
-use Rattle.net_text.specs.NetlistGrammar.{NetlistGrammar}
 use Rattle.net_text.specs.NetlistFaults.{HasNetlistFault}
-use Rattle.net_text.specs.declared.tokens.Stop.{Stop}
-use Rattle.net_text.specs.declared.tokens.Stop.TheVariants as stops
-
--- the whole of the tokens is read, or a fault stands at those that are left
-abbrev pub AnswersWhole : {X A : Type 0} → (X → A) → NetlistGrammar A → List (Token NetlistClass) → Result X Stop → List (Token NetlistClass) → Type 0
-AnswersWhole view g old (Ok x) new = read_whole g old ≡ Ok (view x)
-AnswersWhole view g old (Err stops.Fault) new = read_whole g old ≡ Err new
-AnswersWhole view g old (Err stops.Memory) new = Unit {0}
 
 -- the line of the next token, or that on which the text ends
 abbrev pub line_next : List ℕ → Option (Token NetlistClass) → ℕ

@@ -1,20 +1,19 @@
 //! What a module declares, in the order of its text.
-ghost use Rattle.std.specs.Prelude.{◌≡◌, ◌++◌, Some, IfOk, OnOk, map, unwrap_or};
+ghost use Rattle.std.specs.Prelude.{◌≡◌, ◌++◌, Some, OnOk, map, unwrap_or};
 ghost use Rattle.std.specs.Option.{option_map};
-ghost use Rattle.std.specs.List.{flat_map};
-ghost use Rattle.net_text.specs.SecondDeclarations.{shaped_ports, header_ports, item_declarations, declarations};
-ghost use Rattle.net_text.specs.Answers.{named_view};
+ghost use Rattle.net_text.specs.SecondDeclarations.{shaped_ports, header_ports, item_declarations};
+ghost use Rattle.net_text.specs.CommaLists.{named_view};
 ghost use Rattle.net_text.specs.ParserViews.{shape_view};
 ghost use Rattle.net_text.specs.ItemViews.{item_view};
-ghost use Rattle.net_text.specs.ModuleViews.{port_view, header_view, module_view};
+ghost use Rattle.net_text.specs.HeaderViews.{port_view, header_view};
 ghost use Rattle.net_text.specs.DeclarationViews.{declaration_view, declared_as};
 
+use crate::headers::{HeaderAt, PortAt};
 use crate::items::ItemAt;
-use crate::modules::{HeaderAt, ModuleAt, PortAt};
 use crate::phrases::ShapeOf;
 use crate::tokens::NameAt;
 use pw_defs::List;
-use std::alloc::{AllocError, Global};
+use std::alloc::AllocError;
 
 /// A declaration of a module, with the name and its line.
 #[derive(Clone, Copy)]
@@ -99,7 +98,7 @@ fn add_ports<'a>(
 }
 
 /// Adds the ports of a header.
-fn add_header<'a>(
+pub fn add_header<'a>(
     header: &HeaderAt<'a>,
     all: &mut List<DeclarationAt<'a>>,
 ) -> Result<(), AllocError>
@@ -122,7 +121,7 @@ fn add_header<'a>(
 }
 
 /// Adds what an item declares.
-fn add_item<'a>(item: &ItemAt<'a>, all: &mut List<DeclarationAt<'a>>) -> Result<(), AllocError>
+pub fn add_item<'a>(item: &ItemAt<'a>, all: &mut List<DeclarationAt<'a>>) -> Result<(), AllocError>
     ensures { OnOk result (map declaration_view all.new ≡ map declaration_view all.old ++ item_declarations (item_view item.now)) }
 {
     match item {
@@ -140,28 +139,4 @@ fn add_item<'a>(item: &ItemAt<'a>, all: &mut List<DeclarationAt<'a>>) -> Result<
             Ok(())
         }
     }
-}
-
-/// Adds what items declare.
-fn add_items<'a>(items: &[ItemAt<'a>], all: &mut List<DeclarationAt<'a>>) -> Result<(), AllocError>
-    ensures { OnOk result (map declaration_view all.new ≡ map declaration_view all.old ++ flat_map item_declarations (map item_view items.now)) }
-{
-    for item in items {
-        add_item(item, all)?;
-    }
-    Ok(())
-}
-
-/// All declarations of a module, in the order of the text.
-#[tactic(auto, unfolding(crate::specs::SecondDeclarations::declarations))]
-pub fn declarations_of<'a>(
-    alloc: Global,
-    words: &ModuleAt<'a>,
-) -> Result<List<DeclarationAt<'a>>, AllocError>
-    ensures { IfOk result (λ all. map declaration_view all ≡ declarations (module_view words.now)) }
-{
-    let mut all = List::new(alloc);
-    add_header(&words.header, &mut all)?;
-    add_items(words.items.as_slice(), &mut all)?;
-    Ok(all)
 }

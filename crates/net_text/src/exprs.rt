@@ -1,17 +1,19 @@
 //! Expressions: names with their selections, constants, and concatenations in braces.
 ghost use Rattle.std.specs.Prelude.{◌≡◌, ◌<◌, ◌≤◌, OnOk, IfOk, IfErr, length, map};
-ghost use Rattle.net_text.specs.declared.tokens.Stop.TheVariants.{Memory as OutOfMemory};
+ghost use Rattle.text_streams.specs.declared.stops.Stop.TheVariants.{Memory as OutOfMemory};
 ghost use Rattle.text_defs.specs.Grammar.{read};
 ghost use Rattle.net_text.specs.NetlistGrammar.{selected, selected_name, constant, operand, expr_of, nested, concatenation, comma_list};
-ghost use Rattle.net_text.specs.Answers.{Answers, Gives, with_front, further, comma_then};
+ghost use Rattle.text_streams.specs.Answers.{Answers, Gives, with_front};
+ghost use Rattle.net_text.specs.CommaLists.{further, comma_then};
 ghost use Rattle.net_text.specs.ParserViews.{lined_view, alone};
 
 use crate::classes::NetClass;
 use crate::phrases::{name, selection_option};
 use crate::runs;
-use crate::tokens::{Stop, Tokens};
+use crate::tokens::Tokens;
 use pw_defs::{Expr, List, Name};
 use std::alloc::Global;
+use text_streams::Stop;
 
 /// An expression, and the line of its first token.
 #[derive(Drop)]
@@ -54,9 +56,6 @@ fn constant(tokens: &mut Tokens<'_>) -> Result<ExprAt, Stop>
 {
     let word = tokens.one(NetClass::Constant)?;
     let width = runs::number_of(runs::digits_at(word.text));
-    if width > 65536 {
-        return Err(Stop::Memory);
-    }
     Ok(ExprAt {
         expr: Expr::Const(width),
         line: word.line,

@@ -6,7 +6,8 @@ ghost use Rattle.text_defs.specs.Phrases.{option};
 ghost use Rattle.text_defs.specs.Tokens.{of_class};
 ghost use Rattle.net_text.specs.NetlistClasses.{begins_expr, is_dot};
 ghost use Rattle.net_text.specs.NetlistGrammar.{expr, expr_of, target, connection, assignment, directions_item, wires_item, assigns_item, instance_item, item, comma_list};
-ghost use Rattle.net_text.specs.Answers.{Answers, Gives, with_front, further, comma_then};
+ghost use Rattle.text_streams.specs.Answers.{Answers, Gives, with_front};
+ghost use Rattle.net_text.specs.CommaLists.{further, comma_then};
 ghost use Rattle.net_text.specs.ParserViews.{lined_view};
 ghost use Rattle.net_text.specs.ItemViews.{item_view, itself};
 
@@ -14,9 +15,10 @@ use crate::classes::NetClass;
 use crate::exprs::{ExprAt, nested};
 use crate::lists::names;
 use crate::phrases::{ShapeOf, name, range_option, shape};
-use crate::tokens::{NameAt, Stop, Tokens};
+use crate::tokens::{NameAt, Tokens};
 use pw_defs::{Assign, Conn, Expr, List, Name};
 use std::alloc::Global;
+use text_streams::Stop;
 
 /// How deep braces may nest.
 const DEEPEST: u32 = 100;

@@ -1,26 +1,25 @@
-//! Netlists: which texts are read as which modules, and the faults of a netlist's text.
+//! The text of netlists: its tokens, the parsers of a module's header and items, what each of these declares, and the
+//! fault of a text that cannot go on. `specs/NetlistFaults` says which text is read as which modules.
 #![tactic(auto)]
 
 mod classes;
-mod cursor;
 mod declarations;
 mod exprs;
+mod faults;
+mod headers;
 mod items;
 mod lists;
-mod modules;
 mod phrases;
 mod pieces;
 mod runs;
-mod texts;
 mod tokens;
+mod words;
 
-pub use cursor::{Cursor, Word, last_line, next_word};
-pub use declarations::{DeclarationAt, declarations_of};
-pub use exprs::{ExprAt, nested};
+pub use classes::NetClass;
+pub use declarations::{DeclarationAt, add_header, add_item};
+pub use faults::fault_next;
+pub use headers::{HeaderAt, PortAt, header};
 pub use items::{ItemAt, item};
-pub use lists::names;
-pub use modules::{HeaderAt, ModuleAt, PortAt};
-pub use phrases::{ShapeOf, name, range_option, selection_option, shape};
-pub use pieces::{NetPiece, PieceAt, netlist_piece};
-pub use texts::netlist_words;
-pub use tokens::{NameAt, Stop, Tokens};
+pub use phrases::{ShapeOf, name};
+pub use tokens::{NameAt, Tokens};
+pub use words::Word;

@@ -2,13 +2,15 @@
 ghost use Rattle.std.specs.Prelude.{◌≡◌, ◌<◌, ◌≤◌, OnOk, length, map};
 ghost use Rattle.text_defs.specs.Grammar.{read};
 ghost use Rattle.net_text.specs.NetlistGrammar.{name, comma_list};
-ghost use Rattle.net_text.specs.Answers.{Answers, Gives, named_view, with_front, further, comma_then};
+ghost use Rattle.text_streams.specs.Answers.{Answers, Gives, with_front};
+ghost use Rattle.net_text.specs.CommaLists.{named_view, further, comma_then};
 
 use crate::classes::NetClass;
 use crate::phrases::name;
-use crate::tokens::{NameAt, Stop, Tokens};
+use crate::tokens::{NameAt, Tokens};
 use pw_defs::List;
 use std::alloc::Global;
+use text_streams::Stop;
 
 /// A further name, behind a comma.
 #[tactic(auto, unfolding(text_defs::specs::Grammar::read))]

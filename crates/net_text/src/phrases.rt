@@ -6,14 +6,16 @@ ghost use Rattle.std.specs.Option.{option_map};
 ghost use Rattle.net_text.specs.NetlistClasses.{is_wire, is_colon, is_left_bracket};
 ghost use Rattle.net_text.specs.NetlistGrammar.{name, number, range, range_option, shape, colon_number, selection};
 ghost use Rattle.net_text.specs.Streams.{word_view};
-ghost use Rattle.net_text.specs.Answers.{Answers, named_view};
+ghost use Rattle.text_streams.specs.Answers.{Answers};
+ghost use Rattle.net_text.specs.CommaLists.{named_view};
 ghost use Rattle.net_text.specs.ParserViews.{shape_view};
 
 use crate::classes::NetClass;
-use crate::cursor::Word;
 use crate::runs;
-use crate::tokens::{NameAt, Stop, Tokens};
+use crate::tokens::{NameAt, Tokens};
+use crate::words::Word;
 use pw_defs::Dir;
+use text_streams::Stop;
 
 /// The direction and range of ports.
 #[derive(Clone, Copy)]
@@ -42,11 +44,7 @@ pub fn number(tokens: &mut Tokens<'_>) -> Result<u32, Stop>
     ensures shorter { OnOk result (length tokens.new < length tokens.old) }
 {
     let word = tokens.one(NetClass::Number)?;
-    let number = runs::number_of(word.text);
-    if number > 65535 {
-        return Err(Stop::Memory);
-    }
-    Ok(number)
+    Ok(runs::number_of(word.text))
 }
 
 /// A range, its left place first.

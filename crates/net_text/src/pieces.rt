@@ -6,6 +6,7 @@ ghost use Rattle.net_text.specs.NetlistTokens.{based, is_width, is_name_byte, is
 ghost use Rattle.net_text.specs.PieceViews.{piece_view, what_view, digits_alone};
 
 use crate::runs;
+use text_streams::{begins_with, behind, closed_by, front, is_white};
 
 /// What a piece is, with the bytes that it shows.
 #[derive(Clone, Copy)]
@@ -61,7 +62,7 @@ fn name_piece(text: &[u8]) -> PieceAt<'_>
 {
     let size = runs::name_size(text);
     PieceAt {
-        what: NetPiece::Plain(runs::front(text, size)),
+        what: NetPiece::Plain(front(text, size)),
         size,
     }
 }
@@ -79,7 +80,7 @@ fn escaped_piece(behind: &[u8]) -> PieceAt<'_>
             size: 1 + size,
         };
     };
-    if size > 0 && runs::is_white(*after) {
+    if size > 0 && is_white(*after) {
         return PieceAt {
             what: NetPiece::Escaped(name),
             size: 1 + size,
@@ -89,14 +90,14 @@ fn escaped_piece(behind: &[u8]) -> PieceAt<'_>
 }
 
 /// How many bytes of a base and a value stand behind the width of a constant.
-fn based_size(behind: &[u8]) -> usize
-    ensures size { result ≡ length (based behind.now) }
-    ensures front { take result behind.now ≡ based behind.now }
-    ensures within { result ≤ length behind.now }
+fn based_size(text: &[u8]) -> usize
+    ensures size { result ≡ length (based text.now) }
+    ensures front { take result text.now ≡ based text.now }
+    ensures within { result ≤ length text.now }
 {
-    match behind {
+    match text {
         [b'\'', base, first, ..] if runs::is_base(*base) && runs::is_value_byte(*first) => {
-            2 + runs::value_size(runs::behind(behind, 2))
+            2 + runs::value_size(behind(text, 2))
         }
         _ => 0,
     }
@@ -126,8 +127,8 @@ fn number_piece(text: &[u8]) -> PieceAt<'_>
     ensures { piece_view result ≡ number_piece (digits_at text.now) (based (drop (length (digits_at text.now)) text.now)) }
 {
     let size = runs::digits_size(text);
-    let digits = runs::front(text, size);
-    let more = based_size(runs::behind(text, size));
+    let digits = front(text, size);
+    let more = based_size(behind(text, size));
     if more == 0 {
         return digits_piece(digits);
     }
@@ -135,7 +136,7 @@ fn number_piece(text: &[u8]) -> PieceAt<'_>
         return digits_piece(digits);
     }
     PieceAt {
-        what: NetPiece::Constant(runs::front(text, size + more)),
+        what: NetPiece::Constant(front(text, size + more)),
         size: size + more,
     }
 }
@@ -157,12 +158,12 @@ fn slash_piece<'a>(fresh: bool, text: &'a [u8], behind: &[u8]) -> PieceAt<'a>
     requires size { length behind.now < 18446744073709551600 }
     ensures { piece_view result ≡ netlist_piece fresh (47 ∷ behind.now) }
 {
-    if runs::begins_with(b'/', behind) {
+    if begins_with(b'/', behind) {
         return line_piece(text);
     }
-    if runs::begins_with(b'*', behind) {
-        let inside = runs::behind(behind, 1);
-        return skipped_piece(runs::closed_by(b'*', b'/', inside), inside);
+    if begins_with(b'*', behind) {
+        let inside = text_streams::behind(behind, 1);
+        return skipped_piece(closed_by(b'*', b'/', inside), inside);
     }
     byte_piece(NetPiece::Mark(b'/'))
 }
@@ -172,7 +173,7 @@ fn begins_attribute(behind: &[u8]) -> bool
     ensures test { result ≡ (begins_with 42 behind.now && not (begins_with 41 (drop 1 behind.now))) }
     ensures some { result ≡ true → 1 ≤ length behind.now }
 {
-    runs::begins_with(b'*', behind) && !runs::begins_with(b')', runs::behind(behind, 1))
+    begins_with(b'*', behind) && !begins_with(b')', text_streams::behind(behind, 1))
 }
 
 /// What begins with an opening parenthesis, by the text behind it.
@@ -182,8 +183,8 @@ fn open_piece(fresh: bool, behind: &[u8]) -> PieceAt<'static>
     ensures { piece_view result ≡ netlist_piece fresh (40 ∷ behind.now) }
 {
     if begins_attribute(behind) {
-        let inside = runs::behind(behind, 1);
-        return skipped_piece(runs::closed_by(b'*', b')', inside), inside);
+        let inside = text_streams::behind(behind, 1);
+        return skipped_piece(closed_by(b'*', b')', inside), inside);
     }
     byte_piece(NetPiece::Mark(b'('))
 }
@@ -225,7 +226,7 @@ fn piece_from<'a>(fresh: bool, byte: u8, text: &'a [u8], behind: &'a [u8]) -> Pi
     requires size { length text.now < 18446744073709551600 }
     ensures { piece_view result ≡ netlist_piece fresh (byte ∷ behind.now) }
 {
-    if runs::is_white(byte) {
+    if is_white(byte) {
         return byte_piece(NetPiece::Skipped);
     }
     if begins_directive(fresh, byte) {
@@ -247,5 +248,5 @@ pub fn netlist_piece(fresh: bool, text: &[u8]) -> PieceAt<'_>
     requires size { length text.now < 18446744073709551600 }
     ensures { piece_view result ≡ netlist_piece fresh text.now }
 {
-    piece_from(fresh, text[0], text, runs::behind(text, 1))
+    piece_from(fresh, text[0], text, behind(text, 1))
 }

@@ -1,19 +1,14 @@
 //! Runs of bytes of one kind at the front of a text, and the numbers that digits write.
-ghost use Rattle.std.specs.Prelude.{◌≡◌, ℕ, ◌≤◌, ◌&&◌, ◌==◌, IfSome, min, true, length, take, drop};
+ghost use Rattle.std.specs.Prelude.{◌≡◌, ◌≤◌, min, length};
 ghost use Rattle.std.specs.List.{take_while};
 ghost use Rattle.std.specs.Char.{is_ascii_digit, digit_value};
-ghost use Rattle.text_defs.specs.Pieces.{is_white, begins_with, closed_by};
 ghost use Rattle.net_text.specs.NetlistTokens.{begins_name, is_name_byte, is_graphic, is_base, is_value_byte, number_of};
 ghost use Rattle.net_text.specs.Runs.{is_no_newline};
 
+use text_streams::front;
+
 /// No number that a netlist may have is greater.
 const TOO_GREAT: u32 = 100_000;
-
-pub fn is_white(byte: u8) -> bool
-    ensures { result ≡ is_white byte }
-{
-    byte == b' ' || byte == b'\t' || byte == b'\n' || byte == b'\r' || byte == 12
-}
 
 pub fn begins_name(byte: u8) -> bool
     ensures { result ≡ begins_name byte }
@@ -105,52 +100,6 @@ pub fn line_size(text: &[u8]) -> usize
     ensures within { result ≤ length text.now }
 {
     text.iter().take_while(|byte| **byte != b'\n').count()
-}
-
-/// The text behind so many bytes.
-pub fn behind(text: &[u8], size: usize) -> &[u8]
-    requires { size ≤ length text.now }
-    ensures { result.now ≡ drop size text.now }
-{
-    text.split_at(size).1
-}
-
-/// So many bytes at the front of the text.
-pub fn front(text: &[u8], size: usize) -> &[u8]
-    requires { size ≤ length text.now }
-    ensures { result.now ≡ take size text.now }
-{
-    text.split_at(size).0
-}
-
-pub fn begins_with(byte: u8, text: &[u8]) -> bool
-    ensures { result ≡ begins_with byte text.now }
-{
-    match text {
-        [] => false,
-        [first, ..] => *first == byte,
-    }
-}
-
-/// Whether what is skipped is closed at a byte, by the text behind it.
-fn closes(first: u8, second: u8, byte: u8, behind: &[u8]) -> bool
-    ensures test { result ≡ (byte == first && begins_with second behind.now) }
-    ensures some { result ≡ true → 1 ≤ length behind.now }
-{
-    byte == first && begins_with(second, behind)
-}
-
-/// How many bytes stand up to and with the first `first` that `second` follows.
-pub fn closed_by(first: u8, second: u8, text: &[u8]) -> Option<usize>
-    ensures size { result ≡ closed_by first second text.now }
-    ensures within { IfSome result (λ n. n ≤ length text.now) }
-{
-    for (at, byte) in text.iter().enumerate() {
-        if closes(first, second, *byte, behind(text, at + 1)) {
-            return Some(at + 2);
-        }
-    }
-    None
 }
 
 /// What a byte counts as a digit of a number; 36 where it is none of any base.

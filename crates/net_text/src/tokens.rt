@@ -1,48 +1,20 @@
 //! The tokens of a netlist's text, one ahead of where it is read.
-ghost use Rattle.std.specs.Prelude.{◌≡◌, ◌<◌, OnOk, length, drop};
+ghost use Rattle.std.specs.Prelude.{◌≡◌, ◌<◌, IfOk, OnOk, length, drop};
 ghost use Rattle.std.specs.Option.{option_map};
 ghost use Rattle.text_defs.specs.Grammar.{Grammar, next, passes};
 ghost use Rattle.text_defs.specs.Tokens.{one_of, of_class};
 ghost use Rattle.net_text.specs.NetlistTokens.{netlist_tokens};
 ghost use Rattle.net_text.specs.NetlistClasses.{dir_of, is_direction, begins_header, begins_expr, begins_item};
 ghost use Rattle.net_text.specs.TokenViews.{class_view, test_of};
+ghost use Rattle.net_text.specs.Sizes.{IsMeasured};
 ghost use Rattle.net_text.specs.Streams.{word_view};
-ghost use Rattle.net_text.specs.Answers.{Answers};
+ghost use Rattle.text_streams.specs.Answers.{Answers};
 
 use crate::classes::NetClass;
-use crate::cursor::{Cursor, Word, next_word};
+use crate::words::{Word, next_word};
 use pw_defs::Dir;
-use std::alloc::{AllocError, AllocFailed};
 use std::marker::Model;
-
-/// Why a parser stops: at a fault, or for want of memory.
-#[derive(Clone, Copy, Debug, PartialEq, Eq)]
-pub enum Stop {
-    Fault,
-    Memory,
-}
-
-impl From<AllocError> for Stop {
-    ghost use Rattle.std.specs.Prelude.{◌≡◌};
-    ghost use Rattle.net_text.specs.declared.tokens.Stop.TheVariants.{Memory as OutOfMemory};
-
-    ghost from_gives = { λ _ e. e ≡ OutOfMemory };
-
-    fn from(_error: AllocError) -> Stop {
-        Stop::Memory
-    }
-}
-
-impl<T: Drop> From<AllocFailed<T>> for Stop {
-    ghost use Rattle.std.specs.Prelude.{◌≡◌};
-    ghost use Rattle.net_text.specs.declared.tokens.Stop.TheVariants.{Memory as OutOfMemory};
-
-    ghost from_gives = { λ _ e. e ≡ OutOfMemory };
-
-    fn from(_error: AllocFailed<T>) -> Stop {
-        Stop::Memory
-    }
-}
+use text_streams::{Place, Stop};
 
 /// A name in the text, and its line.
 #[derive(Clone, Copy)]
@@ -55,20 +27,22 @@ pub struct NameAt<'a> {
 #[derive(Drop)]
 pub struct Tokens<'a> {
     next: Option<Word<'a>>,
-    cursor: Cursor<'a>,
+    place: Place<'a>,
 }
 
 impl<'a> Model for Tokens<'a> {
     ghost use Rattle.std.specs.Prelude.{List, ◌++◌};
     ghost use Rattle.text_defs.specs.Tokens.{Token};
     ghost use Rattle.net_text.specs.NetlistTokens.{NetlistClass};
-    ghost use Rattle.net_text.specs.Streams.{ahead, tokens_behind, IsAt, EndsAt};
+    ghost use Rattle.text_streams.specs.Places.{IsAt};
+    ghost use Rattle.net_text.specs.Sizes.{IsNextMeasured};
+    ghost use Rattle.net_text.specs.Streams.{ahead, tokens_behind, EndsAt};
 
     ghost Value = { List (Token NetlistClass) };
 
-    ghost view = { λ t. ahead t.next ++ tokens_behind t.cursor };
+    ghost view = { λ t. ahead t.next ++ tokens_behind t.place };
 
-    ghost invariant = { λ t. IsAt t.cursor × EndsAt t.next (tokens_behind t.cursor) };
+    ghost invariant = { λ t. IsAt t.place × EndsAt t.next (tokens_behind t.place) × IsNextMeasured (ahead t.next) };
 }
 
 /// Whether a token's class is this one.
@@ -141,17 +115,12 @@ fn begins_item(class: NetClass) -> bool
 
 impl<'a> Tokens<'a> {
     /// The tokens of a text.
-    #[tactic(auto, unfolding(crate::specs::Streams::tokens_from), using(crate::proofs::StreamLaws::starts_at))]
+    #[tactic(auto, unfolding(crate::specs::Streams::tokens_from))]
     pub fn new(text: &'a [u8]) -> Tokens<'a>
         ensures { result ≡ netlist_tokens text.now }
     {
-        let (next, cursor) = next_word(Cursor {
-            text,
-            place: 0,
-            line: 1,
-            fresh: true,
-        });
-        Tokens { next, cursor }
+        let (next, place) = next_word(Place::new(text));
+        Tokens { next, place }
     }
 
     /// The next token, if there is one.
@@ -175,15 +144,16 @@ impl<'a> Tokens<'a> {
     fn step(&mut self)
         ensures { self.new ≡ drop 1 self.old }
     {
-        let (next, cursor) = next_word(self.cursor);
+        let (next, place) = next_word(self.place);
         self.next = next;
-        self.cursor = cursor;
+        self.place = place;
     }
 
     /// The next token, which has to be of a class.
-    #[tactic(auto, unfolding(text_defs::specs::Grammar::read), using(crate::proofs::StreamLaws::taken_there))]
+    #[tactic(auto, unfolding(text_defs::specs::Grammar::read), using(crate::proofs::StreamLaws::taken_there, crate::proofs::SizeLaws::measured_there))]
     pub fn one(&mut self, class: NetClass) -> Result<Word<'a>, Stop>
         ensures answers { Answers word_view (one_of (test_of class)) self.old result self.new }
+        ensures measured { IfOk result (λ word. IsMeasured (class_view class) word.text.now) }
         ensures shorter { OnOk result (length self.new < length self.old) }
     {
         let word = match self.next {

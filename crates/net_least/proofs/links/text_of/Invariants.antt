@@ -3,4 +3,4 @@ use Rattle.net_least.specs.Links.{IsWalked, IsWay}
 use Rattle.net_least.proofs.links.text_of.Given as goal
 
 abbrev pub invariant-loop : goal.invariant-loop
-invariant-loop l = (way : Way) → IsWay l.links l.fn.at way → IsWalked l.links way l.rest l.text
+invariant-loop l = (way : Way) → IsWay l.modules.symbols l.links l.fn.at way → IsWalked l.modules.symbols l.links way l.rest l.text

@@ -1,5 +1,5 @@
 use Rattle.std.proofs.Common.{◌≡◌, ◌++◌, map, drop}
-use Rattle.net_text.specs.Answers.{named_view}
+use Rattle.net_text.specs.CommaLists.{named_view}
 use Rattle.net_text.specs.DeclarationViews.{declaration_view, declared_as}
 use Rattle.net_text.proofs.declarations.add_names.Given as goal
 

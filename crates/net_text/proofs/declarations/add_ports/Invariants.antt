@@ -1,7 +1,7 @@
 use Rattle.std.proofs.Common.{◌≡◌, ◌++◌, map, drop}
 use Rattle.net_text.specs.SecondDeclarations.{shaped_ports}
 use Rattle.net_text.specs.ParserViews.{shape_view}
-use Rattle.net_text.specs.ModuleViews.{port_view}
+use Rattle.net_text.specs.HeaderViews.{port_view}
 use Rattle.net_text.specs.DeclarationViews.{declaration_view}
 use Rattle.net_text.proofs.declarations.add_ports.Given as goal
 

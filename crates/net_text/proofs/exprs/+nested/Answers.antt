@@ -3,9 +3,10 @@ use Rattle.std.proofs.lemmas.Result.{err_from_is_err_and}
 use Rattle.text_defs.specs.Tokens.{of_class}
 use Rattle.net_text.specs.NetlistClasses.{is_comma}
 use Rattle.net_text.specs.NetlistGrammar.{nested}
-use Rattle.net_text.specs.Answers.{comma_then}
+use Rattle.net_text.specs.CommaLists.{comma_then}
 use Rattle.net_text.specs.ParserViews.{lined_view, alone}
-use Rattle.net_text.proofs.ListLaws.{stopped, stopped_first, list_stops, list_read, kept_on, further_fault, further_end}
+use Rattle.text_streams.proofs.AnswerLaws.{stopped, stopped_first, kept_on}
+use Rattle.net_text.proofs.ListLaws.{list_stops, list_read, further_fault, further_end}
 use Rattle.net_text.proofs.NestedLaws.{nested_flat, nested_alone, nested_braces}
 use Rattle.net_text.proofs.exprs.+nested.Goals as goal
 

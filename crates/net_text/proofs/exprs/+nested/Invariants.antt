@@ -2,9 +2,9 @@ use Rattle.std.proofs.Common.{◌+◌, ◌*◌, ◌≤◌, length}
 use Rattle.text_defs.specs.Tokens.{of_class}
 use Rattle.net_text.specs.NetlistClasses.{is_comma}
 use Rattle.net_text.specs.NetlistGrammar.{nested}
-use Rattle.net_text.specs.Answers.{comma_then}
+use Rattle.net_text.specs.CommaLists.{comma_then}
 use Rattle.net_text.specs.ParserViews.{lined_view, alone}
-use Rattle.net_text.proofs.ListLaws.{Keeps}
+use Rattle.text_streams.proofs.AnswerLaws.{Keeps}
 use Rattle.net_text.proofs.exprs.+nested.Given as goal
 
 abbrev pub decreases-nested : goal.decreases-nested

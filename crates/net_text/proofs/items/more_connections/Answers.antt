@@ -3,9 +3,10 @@ use Rattle.std.proofs.lemmas.Result.{err_from_is_err_and}
 use Rattle.text_defs.specs.Tokens.{of_class}
 use Rattle.net_text.specs.NetlistClasses.{is_comma}
 use Rattle.net_text.specs.NetlistGrammar.{connection}
-use Rattle.net_text.specs.Answers.{comma_then}
+use Rattle.net_text.specs.CommaLists.{comma_then}
 use Rattle.net_text.specs.ItemViews.{itself}
-use Rattle.net_text.proofs.ListLaws.{stopped, kept_on, further_fault, further_end}
+use Rattle.text_streams.proofs.AnswerLaws.{stopped, kept_on}
+use Rattle.net_text.proofs.ListLaws.{further_fault, further_end}
 use Rattle.net_text.proofs.items.more_connections.Goals as goal
 
 pub returns-in_err-conn-clause-answers : goal.returns-in_err-conn-clause-answers

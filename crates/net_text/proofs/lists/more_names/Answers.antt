@@ -3,8 +3,9 @@ use Rattle.std.proofs.lemmas.Result.{err_from_is_err_and}
 use Rattle.text_defs.specs.Tokens.{of_class}
 use Rattle.net_text.specs.NetlistClasses.{is_comma}
 use Rattle.net_text.specs.NetlistGrammar.{name}
-use Rattle.net_text.specs.Answers.{named_view, comma_then}
-use Rattle.net_text.proofs.ListLaws.{stopped, kept_on, further_fault, further_end}
+use Rattle.net_text.specs.CommaLists.{named_view, comma_then}
+use Rattle.text_streams.proofs.AnswerLaws.{stopped, kept_on}
+use Rattle.net_text.proofs.ListLaws.{further_fault, further_end}
 use Rattle.net_text.proofs.lists.more_names.Goals as goal
 
 pub returns-in_err-name-clause-answers : goal.returns-in_err-name-clause-answers

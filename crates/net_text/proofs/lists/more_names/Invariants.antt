@@ -2,8 +2,8 @@ use Rattle.std.proofs.Common.{◌≤◌, length}
 use Rattle.text_defs.specs.Tokens.{of_class}
 use Rattle.net_text.specs.NetlistClasses.{is_comma}
 use Rattle.net_text.specs.NetlistGrammar.{name}
-use Rattle.net_text.specs.Answers.{named_view, comma_then}
-use Rattle.net_text.proofs.ListLaws.{Keeps}
+use Rattle.net_text.specs.CommaLists.{named_view, comma_then}
+use Rattle.text_streams.proofs.AnswerLaws.{Keeps}
 use Rattle.net_text.proofs.lists.more_names.Given as goal
 
 abbrev pub invariant-loop-all : goal.invariant-loop-all

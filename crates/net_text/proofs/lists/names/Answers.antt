@@ -1,8 +1,9 @@
 use Rattle.std.proofs.Common.{ap, map, ◌∙◌, ◌++◌, ◌∷◌, []}
 use Rattle.std.proofs.lemmas.Result.{err_from_is_err_and}
 use Rattle.net_text.specs.NetlistGrammar.{name}
-use Rattle.net_text.specs.Answers.{named_view}
-use Rattle.net_text.proofs.ListLaws.{stopped_first, list_stops, list_read}
+use Rattle.net_text.specs.CommaLists.{named_view}
+use Rattle.text_streams.proofs.AnswerLaws.{stopped_first}
+use Rattle.net_text.proofs.ListLaws.{list_stops, list_read}
 use Rattle.net_text.proofs.lists.names.Goals as goal
 
 pub returns-in_err-first-clause-answers : goal.returns-in_err-first-clause-answers

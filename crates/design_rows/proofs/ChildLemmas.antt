@@ -25,11 +25,11 @@ use Rattle.design_rows.specs.Children.{HasChildren, HasNames, HasNamesInside, Ha
 use Rattle.design_rows.specs.Sound.{AreRows}
 use Rattle.design_rows.specs.View.{design_of, inst_at, instance_at, name_at, parent_in, path_at}
 
-key_total : IsTotalOrder key_cmp
+pub key_total : IsTotalOrder key_cmp
 key_total = then_total (on_total (λ k. k.0) nat_cmp_total) (on_total (λ k. k.1) (lists_total nat_cmp_total))
 
 -- of two places of a rising list the first has what comes before
-rising_at : {X : Type 0} (cmp : X → X → Ordering) (xs : List X) → IsRising cmp xs → (i j : ℕ) (x y : X) → i < j → slice_get xs i ≡ Some x → slice_get xs j ≡ Some y → cmp x y ≡ Less
+pub rising_at : {X : Type 0} (cmp : X → X → Ordering) (xs : List X) → IsRising cmp xs → (i j : ℕ) (x y : X) → i < j → slice_get xs i ≡ Some x → slice_get xs j ≡ Some y → cmp x y ≡ Less
 rising_at cmp [] rising i j x y before e f = cc
 rising_at cmp (z ∷ zs) rising zero zero x y before e f = absurd (omega arith)
 rising_at cmp (z ∷ zs) rising zero (suc j) x y before e f =

@@ -4,3 +4,4 @@ pub mod RowLemmas
 pub mod GrowthLemmas
 pub mod WorkedRows
 pub mod ChildLemmas
+pub mod RisingChildren

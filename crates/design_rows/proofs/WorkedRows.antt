@@ -1,5 +1,5 @@
 -- The rows of the two blocks: they can be read, and their design is that of the two blocks.
-use Rattle.std.proofs.Common.{◌≡◌, ℕ, zero, suc, ◌+◌, ◌<◌, ◌≤◌, List, [], ◌∷◌, length, map, take, refl, ap, ◌∙◌, arith}
+use Rattle.std.proofs.Common.{◌≡◌, ℕ, zero, suc, ◌+◌, ◌<◌, ◌≤◌, List, [], ◌∷◌, length, map, take, inl, inr, refl, ap, ◌∙◌, arith}
 use Rattle.std.specs.Global.{Vec}
 use Rattle.std.specs.List.{range_with_len, sum_by}
 use Rattle.std.specs.Prelude.{codes}
@@ -7,8 +7,10 @@ use Rattle.pw_defs.specs.declared.design.Bit.{Bit}
 use Rattle.pw_defs.specs.declared.design.Body.TheVariants.{Module, Cell}
 use Rattle.pw_defs.specs.declared.design.Design.{Design}
 use Rattle.pw_defs.specs.declared.design.Instance.{Instance}
+use Rattle.list_defs.specs.Members.{IsIn}
 use Rattle.worked_jobs.specs.Designs.{pair}
 use Rattle.worked_jobs.specs.Libraries.{library}
+use Rattle.design_rows.specs.Children.{HasChildren, HasNames, HasNameTwice, IsInner}
 use Rattle.design_rows.specs.Sound.{AreRows, Owns}
 use Rattle.design_rows.specs.View.{bit_at, design_of, inst_at, instance_at, kind_at, owner_at, path_in, place_at, place_name, size}
 use Rattle.design_rows.specs.declared.tables.Feed.{Feed}
@@ -142,3 +144,45 @@ it_owns feeds = record { there = omega arith; from = omega arith; to = omega ari
 -- what an instance is inside comes before it
 pub no_instance_comes_first : (feeds : Vec Feed) → ¬ AreRows (rows (inst 0 0 0 0 ∷ inst 2 8 1 2 ∷ inst 1 10 2 4 ∷ []) feeds)
 no_instance_comes_first feeds are = let before = are.parents 1 (omega arith) (omega arith) in omega (arith, before)
+
+-- the blocks and their buffers are in order by what they are inside and by name
+pub they_have_children : (feeds : Vec Feed) → HasChildren (rows insts feeds)
+they_have_children feeds = record { rising = ((refl, (refl, (refl, tt))), ((refl, (refl, tt)), ((refl, tt), (tt, tt)))); each = each; all = all }
+  where
+    r : Rows
+    r = rows insts feeds
+
+    each : (n : ℕ) → IsIn n r.children → IsInner r n
+    each n (inl is) = (omega (arith, is), omega (arith, is))
+    each n (inr (inl is)) = (omega (arith, is), omega (arith, is))
+    each n (inr (inr (inl is))) = (omega (arith, is), omega (arith, is))
+    each n (inr (inr (inr (inl is)))) = (omega (arith, is), omega (arith, is))
+    each n (inr (inr (inr (inr none)))) = absurd none
+
+    all : (n : ℕ) → IsInner r n → IsIn n r.children
+    all zero is = absurd (omega (arith, is.0))
+    all (suc zero) is = inl refl
+    all (suc (suc zero)) is = inr (inr (inl refl))
+    all (suc (suc (suc zero))) is = inr (inl refl)
+    all (suc (suc (suc (suc zero)))) is = inr (inr (inr (inl refl)))
+    all (suc (suc (suc (suc (suc n))))) is = absurd (omega (arith, is.1))
+
+pub they_have_names : (feeds : Vec Feed) → HasNames (rows insts feeds)
+they_have_names feeds zero is = absurd (omega (arith, is.0))
+they_have_names feeds (suc zero) is = λ same. cc
+they_have_names feeds (suc (suc zero)) is = λ same. cc
+they_have_names feeds (suc (suc (suc zero))) is = λ same. cc
+they_have_names feeds (suc (suc (suc (suc zero)))) is = λ same. cc
+they_have_names feeds (suc (suc (suc (suc (suc n))))) is = absurd (omega (arith, is.1))
+
+-- two blocks inside the top have one name
+pub the_second_is_named_as_the_first : (feeds : Vec Feed) → HasNameTwice (rows (inst 0 0 0 0 ∷ inst 0 8 1 2 ∷ inst 0 8 3 4 ∷ []) feeds)
+the_second_is_named_as_the_first feeds = record {
+  outer = 0;
+  name = codes "u_a";
+  one = 1;
+  other = 2;
+  two = λ same. absurd (omega (arith, same));
+  is_one = record { inner = (omega arith, omega arith); inside = refl; named = refl };
+  is_other = record { inner = (omega arith, omega arith); inside = refl; named = refl };
+}

@@ -38,6 +38,16 @@ pub record IsChild (r : Rows) (outer : ℕ) (name : List ℕ) (n : ℕ) : Type 0
   pub inside : (inst_at r n).parent ≡ outer
   pub named : name_at r (inst_at r n).name ≡ name
 
+-- two instances inside one have one name there
+pub record HasNameTwice (r : Rows) : Type 0 where
+  pub outer : ℕ
+  pub name : List ℕ
+  pub one : ℕ
+  pub other : ℕ
+  pub two : one ≢ other
+  pub is_one : IsChild r outer name one
+  pub is_other : IsChild r outer name other
+
 -- In a design an instance is inside another one, and its path is this name joined to that one's path.
 pub record IsNamedInside (d : Design) (outer : ℕ) (name : List ℕ) (n : ℕ) : Type 0 where
   pub inside : parent_of d n ≡ Some (Some outer)

@@ -1,5 +1,6 @@
 -- Rows that grow.
-use Rattle.std.specs.Prelude.{◌≡◌, ℕ, List, [], ◌∷◌, ◌++◌, replicate, slice_set}
+use Rattle.std.specs.Prelude.{◌≡◌, ℕ, Bool, true, false, List, [], ◌∷◌, ◌++◌, replicate, slice_set}
+use Rattle.design_rows.specs.Children.{HasChildren, HasNameTwice}
 use Rattle.design_rows.specs.declared.tables.Feed.{Feed}
 use Rattle.design_rows.specs.declared.tables.InstanceRow.{InstanceRow}
 use Rattle.design_rows.specs.declared.tables.KindRow.{KindRow}
@@ -16,6 +17,14 @@ with_place r place = record r { places = r.places ++ place ∷ [] }
 
 abbrev pub with_kind : Rows → KindRow → Rows
 with_kind r kind = record r { kinds = r.kinds ++ kind ∷ [] }
+
+abbrev pub with_children : Rows → List ℕ → Rows
+with_children r children = record r { children = children }
+
+-- The children are in order; or two instances inside one have one name, and the rows are as they were.
+abbrev pub AreOrdered : Rows → Rows → Bool → Type 0
+AreOrdered old new true = HasChildren new
+AreOrdered old new false = HasNameTwice old × (new ≡ old)
 
 -- what instances are instances of is the same
 pub record HaveSameKinds (old new : Rows) : Type 0 where

@@ -8,6 +8,7 @@
 mod building;
 mod children;
 mod designs;
+mod ordered;
 pub mod reads;
 mod tables;
 

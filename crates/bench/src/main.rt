@@ -9,6 +9,8 @@
 //! `flat N` makes a design of N cells of three pins in one top, `nested N` one of N instances of a block of 300 cells with
 //! names of some 1,000 bytes, and reads each whole. It prints how many instances, bits, bits that another one feeds and
 //! bytes of names there are.
+//!
+//! `library FILE` reads a Liberty file, and prints how many cells and pins it has, or that it is refused.
 #![tactic(auto)]
 
 ghost use Rattle.std.specs.Prelude.{◌≤◌, IfSome};
@@ -18,19 +20,21 @@ mod designs;
 mod joined;
 mod modes;
 mod random;
+mod readers;
 
 use designs::counts_of;
 use joined::{Link, gathered_nodes, joined_nodes, level_count};
 use modes::mode_nodes;
 use pw_defs::DiagFault;
 use random::random_nodes;
+use readers::read_text;
 use state_meets::GatherFault;
 use std::alloc::Global;
 use std::process::ExitCode;
 use std::{env, io};
 
 const USAGE: &str =
-    "usage: bench pairs|apart|chain|pairs-walk|apart-walk|chain-walk|random|flat|nested N, or bench modes ROOTS MODES";
+    "usage: bench pairs|apart|chain|pairs-walk|apart-walk|chain-walk|random|flat|nested N, bench modes ROOTS MODES, or bench library FILE";
 
 /// How many nodes a table may have.
 const MAX_NODES: u32 = 1_048_576;
@@ -125,6 +129,10 @@ fn main(rt: HostRuntime) -> io::Result<ExitCode> {
         return Ok(ExitCode::from(2));
     };
     if let Some(counts) = counts_of(rt.alloc(), kind.as_str(), size.as_str())? {
+        println!(rt; "{counts}")?;
+        return Ok(ExitCode::SUCCESS);
+    }
+    if let Some(counts) = read_text(&rt, rt.alloc(), kind.as_str(), size.as_str())? {
         println!(rt; "{counts}")?;
         return Ok(ExitCode::SUCCESS);
     }

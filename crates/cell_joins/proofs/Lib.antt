@@ -1,0 +1,3 @@
+pub mod UnionLaws
+pub mod SameCells
+pub mod PlacedLaws

@@ -25,7 +25,9 @@ pub fn read_text<R: Files>(
 
 /// The bytes of a file, `None` where it can't be read.
 fn file_text<R: Files>(rt: &R, alloc: Global, file: &str) -> Result<Option<Vec<u8>>, AllocError> {
-    let mut shelf = DirShelf::new(rt, alloc, ".")?;
+    let Ok(mut shelf) = DirShelf::new(rt, alloc, ".") else {
+        return Err(AllocError);
+    };
     let mut text = Vec::new(alloc);
     match shelf.fetch(file, &mut text) {
         Ok(()) => Ok(Some(text)),

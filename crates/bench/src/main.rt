@@ -10,7 +10,8 @@
 //! names of some 1,000 bytes, and reads each whole. It prints how many instances, bits, bits that another one feeds and
 //! bytes of names there are.
 //!
-//! `library FILE` reads a Liberty file, and prints how many cells and pins it has, or that it is refused.
+//! `library FILE` reads a Liberty file and `modules FILE` a netlist, and prints how many cells and pins, or modules, wires,
+//! instances and names there are, or that it is refused.
 #![tactic(auto)]
 
 ghost use Rattle.std.specs.Prelude.{◌≤◌, IfSome};
@@ -34,7 +35,7 @@ use std::process::ExitCode;
 use std::{env, io};
 
 const USAGE: &str =
-    "usage: bench pairs|apart|chain|pairs-walk|apart-walk|chain-walk|random|flat|nested N, bench modes ROOTS MODES, or bench library FILE";
+    "usage: bench pairs|apart|chain|pairs-walk|apart-walk|chain-walk|random|flat|nested N, bench modes ROOTS MODES, or bench library|modules FILE";
 
 /// How many nodes a table may have.
 const MAX_NODES: u32 = 1_048_576;

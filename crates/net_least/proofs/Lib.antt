@@ -5,5 +5,12 @@ pub mod Spelled
 pub mod Nears
 pub mod OwnFirst
 pub mod FirstLines
+pub mod FreeModules
+pub mod Keys
+pub mod Descents
+pub mod Recursions
+pub mod BranchLemmas
+pub mod Marking
 pub mod UnknownTypes
 pub mod RowItems
+pub mod WalkSteps

@@ -89,7 +89,7 @@ fn put_pin(alloc: Global, out: &mut String, pin: &Pin) -> Result<(), AllocError>
 }
 
 /// What stands behind the name of an input or output.
-fn arrow(dir: Dir) -> &'static str {
+pub fn arrow(dir: Dir) -> &'static str {
     match dir {
         Dir::Input => "<",
         Dir::Output => ">",

@@ -9,14 +9,16 @@
 //! - `legal CONDITION` answers the legal states, `build CONDITION` the number of its set in the table. A condition is
 //!   written from its parts on: `on:0`, `is:0:off`, `is:0:800000`, `apart:0:1:100000`, `true`, `not`, `all:2`, `any:0`.
 //! - `read_volts TEXT` answers microvolts, `form` or `range`; `volts_text MICROVOLTS` answers volts.
-//! - `read_library TEXT ..` answers the cells of libraries, each joined to those before it, or the first fault. A text is `x` and
-//!   two hexadecimal digits for each byte; `tests/tables.py` says how cells and faults are written.
+//! - `read_library TEXT ..` answers the cells of libraries, each joined to those before it, and `read_netlist TEXT` the modules of a
+//!   netlist, or their first fault. A text is `x` and two hexadecimal digits for each byte; `tests/tables.py` says how cells,
+//!   modules and faults are written.
 //! - `name NAME` answers the number of the name, which it has from its first such line on.
 #![tactic(auto)]
 
 mod conditions;
 mod libraries;
 mod names;
+mod netlists;
 mod states;
 mod tables;
 mod texts;
@@ -53,6 +55,7 @@ fn answer(alloc: Global, session: &mut Session, words: &[&str]) -> Result<String
         "volts_text" => voltages::printed_text(alloc, arguments),
         "name" => names::number_text(alloc, &mut session.names, arguments),
         "read_library" => libraries::library_text(alloc, arguments),
+        "read_netlist" => netlists::netlist_text(alloc, arguments),
         "legal" => states::legal_text(alloc, &session.supplies, arguments),
         "table" => {
             session.table = tables::table_of(alloc, arguments)?;

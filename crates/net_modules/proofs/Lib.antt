@@ -1,0 +1,14 @@
+pub mod FirstSaid
+pub mod SayingLaws
+pub mod Telling
+pub mod RefusedLaws
+pub mod PlaceLaws
+pub mod ModuleLaws
+pub mod ModuleReads
+pub mod DraftLaws
+pub mod TookLaws
+pub mod ItemLaws
+pub mod TableLaws
+pub mod RefusalLaws
+pub mod NetlistLoop
+pub mod ToldLaws

@@ -1,0 +1,77 @@
+-- What a text's modules and its second declarations are, by what was read of its tokens.
+use Rattle.std.proofs.Common.{◌≡◌, ℕ, List, [], ◌∷◌, Option, None, Some, Result, Ok, Err, is_some, true, false, refl, sym, ap, ◌∙◌, subst}
+use Rattle.module_rows.specs.declared.plain.Draft.{Draft}
+use Rattle.pw_defs.specs.declared.faults.At.{At}
+use Rattle.pw_defs.specs.declared.faults.NetFault.{NetFault}
+use Rattle.pw_defs.specs.declared.faults.NetFault.TheVariants.{N1, N2, N3, N4, Memory}
+use Rattle.pw_defs.specs.declared.netlist.Module.{Module}
+use Rattle.std.specs.Option.{option_map}
+use Rattle.std.proofs.lemmas.Bool.{false≢true}
+use Rattle.std.proofs.lemmas.Option.{none-some}
+use Rattle.text_defs.specs.Grammar.{next, read, read_whole, whole}
+use Rattle.text_streams.specs.declared.stops.Stop.{Stop}
+use Rattle.text_streams.specs.declared.stops.Stop.TheVariants as stops
+use Rattle.net_text.specs.CommaLists.{named_view}
+use Rattle.net_text.specs.Streams.{word_view}
+use Rattle.net_text.specs.declared.tokens.NameAt.{NameAt}
+use Rattle.net_text.specs.declared.words.Word.{Word}
+use Rattle.text_defs.specs.Tokens.{Token}
+use Rattle.net_text.specs.NetlistFaults.{ReadsAsModules}
+use Rattle.net_text.specs.NetlistGrammar.{ModuleWords, Named, NetlistGrammar, netlist}
+use Rattle.net_text.specs.NetlistTokens.{NetlistClass, netlist_tokens}
+use Rattle.net_text.specs.Stopped.{IsFaultNext, IsToldFault}
+use Rattle.net_text.proofs.StoppedLaws.{told_fault, told_words}
+use Rattle.net_modules.specs.Drafts.{IsReadFrom}
+use Rattle.net_modules.specs.Readings.{IsNamedFault, TookWhole}
+
+pub told_modules : (text : List ℕ) (tokens : List (Token NetlistClass)) (words : List ModuleWords) (draft : Draft) (modules : List Module) → tokens ≡ netlist_tokens text
+    → read_whole netlist tokens ≡ Ok words → IsReadFrom words draft None → modules ≡ draft.modules → ReadsAsModules text modules
+told_modules text tokens words draft modules e reads is same =
+    record { words = words; reads = told_words text tokens words e reads; once = is.0; value = same ∙ ap (λ (d : Draft). d.modules) is.1 }
+
+pub told_second : (text : List ℕ) (tokens : List (Token NetlistClass)) (words : List ModuleWords) (draft : Draft) (named : Named) (f : NetFault) → tokens ≡ netlist_tokens text
+    → read_whole netlist tokens ≡ Ok words → IsReadFrom words draft (Some named) → IsNamedFault named f → IsToldFault text f
+told_second text tokens words draft named (N1 at) e reads is h = absurd h
+told_second text tokens words draft named (N2 at) e reads is h = absurd h
+told_second text tokens words draft named (N3 at) e reads is h = absurd h
+told_second text tokens words draft named Memory e reads is h = tt
+told_second text tokens words draft named (N4 at) e reads is h =
+    record {
+      words = words;
+      reads = told_words text tokens words e reads;
+      inside = is.inside;
+      first_module = is.first_module;
+      declaration = is.refused.declaration;
+      first = is.refused.first;
+      place = h ∙ ap (λ (n : Named). let at : At = record { line = n.line; name = n.text } in at) (sym is.refused.same);
+    }
+
+-- ---- whole texts
+
+pub left_over : {A : Type 0} (g : NetlistGrammar A) (old left : List (Token NetlistClass)) (x : A) (o : Option Word) → read g old ≡ Ok (x, left)
+    → option_map word_view o ≡ next left → is_some o ≡ true → read_whole g old ≡ Err left
+left_over g old [] x None e p t = absurd (false≢true t)
+left_over g old [] x (Some w) e p t = absurd (none-some (word_view w) (sym p))
+left_over g old (k ∷ rest) x o e p t = ap whole e
+
+pub nothing_left : {A : Type 0} (g : NetlistGrammar A) (old left : List (Token NetlistClass)) (x : A) (o : Option Word) → read g old ≡ Ok (x, left)
+    → option_map word_view o ≡ next left → is_some o ≡ false → read_whole g old ≡ Ok x
+nothing_left g old [] x o e p t = ap whole e
+nothing_left g old (k ∷ rest) x None e p t = absurd (none-some k p)
+nothing_left g old (k ∷ rest) x (Some w) e p t = absurd (false≢true (sym t))
+
+module _ (text : List ℕ) (tokens new : List (Token NetlistClass)) (draft : Draft) (e : tokens ≡ netlist_tokens text) where
+  abbrev Taken : Result (Option NameAt) Stop → Type 0
+  Taken r = TookWhole (λ (found : Option NameAt) (words : List ModuleWords). IsReadFrom words draft (option_map named_view found)) netlist tokens r new
+
+  pub modules_taken : (found : Option NameAt) (modules : List Module) → Taken (Ok found) → found ≡ None → modules ≡ draft.modules → ReadsAsModules text modules
+  modules_taken found modules t none same =
+      let u = subst (λ o. Taken (Ok o)) none t in told_modules text tokens u.0 draft modules e u.1 u.2 same
+
+  pub second_taken : (found : Option NameAt) (second : NameAt) (f : NetFault) → Taken (Ok found) → found ≡ Some second → IsNamedFault (named_view second) f
+      → IsToldFault text f
+  second_taken found second f t some named =
+      let u = subst (λ o. Taken (Ok o)) some t in told_second text tokens u.0 draft (named_view second) f e u.1 u.2 named
+
+  pub fault_taken : (s : Stop) (f : NetFault) → Taken (Err s) → s ≡ stops.Fault → IsFaultNext text (next new) f → IsToldFault text f
+  fault_taken s f t fault told = told_fault text tokens new (next new) e (subst (λ r. Taken (Err r)) fault t) refl f told

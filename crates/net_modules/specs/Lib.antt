@@ -1,0 +1,5 @@
+pub mod Sayings
+pub mod SaidTables
+pub mod Refusals
+pub mod Drafts
+pub mod Readings

@@ -3,8 +3,9 @@
 
   bench/readers.py [BENCH] [--sizes N,N,..] [--cells N,N,..] [--keep FOLDER] [--seed S]
 
-BENCH is the built program `crates/bench/out/bench`, of which the words `library FILE` and `netlist LIBRARY NETLIST TOP` are
-run. Where it is left out or has no such words yet, that is said and OpenSTA is measured alone. OpenSTA is a package of Debian:
+BENCH is the built program `crates/bench/out/bench`, of which the words `library FILE`, `modules NETLIST` (a netlist is read) and
+`netlist LIBRARY NETLIST TOP` (it is read and elaborated) are run. Where it is left out or has no such words yet, that is said and
+OpenSTA is measured alone. OpenSTA is a package of Debian:
 `apt-get install opensta`; where its program `sta` isn't there, that is said too.
 
 Seconds are those of a processor that one run takes, in the program and in the system for it, and MB are its peak memory; a peak
@@ -94,6 +95,10 @@ def sta_library(files, library):
     return sta_run(files, ["read_liberty " + library])
 
 
+def sta_modules(files, netlist):
+    return sta_run(files, ["read_verilog " + netlist])
+
+
 def sta_netlist(files, library, netlist):
     done = sta_run(files, ["read_liberty " + library, "read_verilog " + netlist, "link_design top",
                            "puts [llength [get_cells -hierarchical *]]"])
@@ -109,10 +114,10 @@ def own_run(bench, files, words):
 
 
 def has_words(bench, files):
-    """Which of the two words the program has, by a run on small files."""
+    """Which of the words the program has, by a run on small files."""
     library = files.library(len(make_library.KINDS))
     netlist, _ = files.netlist("flat", 100)
-    asked = {"library": [library], "netlist": [library, netlist, "top"]}
+    asked = {"library": [library], "modules": [netlist], "netlist": [library, netlist, "top"]}
     if bench is None:
         print("No program was given: OpenSTA is measured alone.\n")
         return set()
@@ -171,6 +176,18 @@ def measure_libraries(bench, files, sizes, has_sta, empty):
     tell_exponents(theirs, own, empty)
 
 
+def measure_modules(bench, files, form, sizes, has_sta, empty):
+    head("instances, %s, read alone" % form)
+    theirs, own = [], []
+    for size in sizes:
+        path, instances = files.netlist(form, size)
+        theirs.append((instances, sta_modules(files, path) if has_sta else None))
+        own.append((instances, own_run(bench, files, ["modules", path]) if bench else None))
+        row(instances, path, theirs[-1][1], own[-1][1])
+        os.remove(path)
+    tell_exponents(theirs, own, empty)
+
+
 def measure_netlists(bench, files, form, sizes, has_sta, empty):
     library = files.library(len(make_library.KINDS))
     head("instances, " + form)
@@ -216,9 +233,11 @@ def main():
         found = has_words(bench, files)
         empty = sta_run(files, ["puts empty"]).seconds if has_sta else 0.0
         measure_libraries(bench if "library" in found else None, files, given.cells, has_sta, empty)
-        own = bench if "netlist" in found else None
-        measure_netlists(own, files, "flat", given.sizes, has_sta, empty)
-        measure_netlists(own, files, "hierarchy", [int(size * BY_HIERARCHY) for size in given.sizes], has_sta, empty)
+        by_hierarchy = [int(size * BY_HIERARCHY) for size in given.sizes]
+        for word, measured in (("modules", measure_modules), ("netlist", measure_netlists)):
+            own = bench if word in found else None
+            measured(own, files, "flat", given.sizes, has_sta, empty)
+            measured(own, files, "hierarchy", by_hierarchy, has_sta, empty)
     finally:
         if not given.keep:
             shutil.rmtree(folder)

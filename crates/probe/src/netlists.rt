@@ -150,10 +150,11 @@ fn put_expr(
 ) -> Result<(), AllocError> {
     let mut pending = Vec::new(alloc);
     pending.push(Pending::Expr(expr))?;
-    while let Some(next) = pending.pop() {
-        match next {
-            Pending::Mark(mark) => out.push_str(mark)?,
-            Pending::Expr(number) => put_one(alloc, out, &mut pending, modules, number)?,
+    for _ in 0..u64::MAX {
+        match pending.pop() {
+            Some(Pending::Mark(mark)) => out.push_str(mark)?,
+            Some(Pending::Expr(number)) => put_one(alloc, out, &mut pending, modules, number)?,
+            None => return Ok(()),
         }
     }
     Ok(())
@@ -200,7 +201,10 @@ fn push_parts(
     }
     let first = modules.first_leaf(number);
     let mut end = number;
-    while end > first {
+    for _ in 0..number {
+        if end <= first || end > modules.exprs() {
+            return Ok(());
+        }
         if end < number {
             pending.push(Pending::Mark(","))?;
         }

@@ -23,6 +23,7 @@ test:
 cases: $(PROGRAM) $(PROBE)
 	python3 tests/calls.py $(PROBE)
 	python3 tests/tables.py
+	python3 tests/readers.py $(PROBE)
 	python3 tests/run.py $(PROGRAM)
 
 bench: $(PROGRAM) $(DIAGRAMS) $(PROBE)

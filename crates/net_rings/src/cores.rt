@@ -136,8 +136,7 @@ fn unused_bits(alloc: Global, uses: &[u32]) -> Result<Vec<u32>, AllocError>
     Ok(unused)
 }
 
-/// What is left of bits where those are taken away, time and again, that feed nothing that is left. Nothing is left where
-/// there is no ring.
+/// What is left of bits where those are taken away, time and again, that feed nothing that is left.
 pub fn core_of(alloc: Global, graph: BitGraph) -> Result<Core, AllocError>
     ensures { IfOk result (λ core. IsCore graph [] core) }
 {

@@ -1,8 +1,9 @@
 //! Rings of bits that feed one another: which bits may be on one, and the least bit of each ring by an order of the bits.
 //!
-//! `BitGraph` takes the bits with what feeds each. `core_of` leaves those out that feed nothing that could be on a
-//! ring, time and again, so that nothing is left exactly where there is no ring. `ring_minima` then takes the bits
-//! in order, looks whether each comes back to itself through those that are left, and takes it away.
+//! `BitGraph` takes the bits with what feeds each. `core_of` takes bits away that feed nothing that is left, time and
+//! again: none of them is on a ring. `ring_minima` then takes the bits in order, looks whether each comes back to itself
+//! through those that are left, and takes it away. That all such bits are taken away, and so nothing is left where there
+//! is no ring, is no clause: time alone depends on it.
 #![tactic(auto)]
 
 mod cores;

@@ -54,7 +54,7 @@ spot_total =
     then_total (on_total (λ (x : Spot). x.way) way_total) (then_total (on_total (λ (x : Spot). x.net) nat_list_cmp_total)
     (on_total (λ (x : Spot). x.place) nat_cmp_total))
 
-spot_of_parts : (x y : Spot) → x.way ≡ y.way → x.net ≡ y.net → x.place ≡ y.place → x ≡ y
+pub spot_of_parts : (x y : Spot) → x.way ≡ y.way → x.net ≡ y.net → x.place ≡ y.place → x ≡ y
 spot_of_parts x y p q r = λ i. record { way = p i; net = q i; place = r i }
 
 pub spot_exact : CmpEqualImpliesEq spot_cmp

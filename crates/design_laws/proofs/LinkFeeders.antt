@@ -1,5 +1,5 @@
 -- What feeds a bit where no signal begins and none is passed on.
-use Rattle.std.proofs.Common.{◌≡◌, ℕ, List, Option, Some, None, slice_get, ◌∙◌, subst}
+use Rattle.std.proofs.Common.{◌≡◌, ℕ, List, Option, Some, None, slice_get, subst}
 use Rattle.std.proofs.lemmas.Option.{same_Some}
 use Rattle.pw_defs.specs.declared.design.Bit.{Bit}
 use Rattle.pw_defs.specs.declared.design.Feeder.TheVariants.{Bit as BitFeeder, Constant, Nothing}

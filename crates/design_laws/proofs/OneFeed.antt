@@ -1,6 +1,6 @@
 -- In a hierarchy without faults a bit is fed by one bit. (A line of a model that names an input bit is also met by places
 -- outside the range of the port that are spelled alike; but there is no bit there, and nothing feeds it.)
-use Rattle.std.proofs.Common.{◌≡◌, ◌≢◌, ℕ, ◌<◌, ◌≤◌, ◌⊎◌, true, List, [], ◌∷◌, Option, Some, option_and_then, option_map, length, map, slice_get, inl, inr, refl, sym, ap, ◌∙◌, subst, arith}
+use Rattle.std.proofs.Common.{◌≡◌, ℕ, ◌<◌, ◌≤◌, ◌⊎◌, true, List, [], ◌∷◌, Option, Some, option_and_then, option_map, length, map, slice_get, inl, inr, refl, sym, ap, ◌∙◌, subst, arith}
 use Rattle.std.proofs.lemmas.Bool.{cases_lt}
 use Rattle.std.proofs.lemmas.Option.{same_Some, slice_get-map, slice_get_within}
 use Rattle.pw_defs.specs.declared.chains.Partial.TheVariants.{Feed}
@@ -32,11 +32,12 @@ use Rattle.design_defs.specs.Places.{misselected, signals}
 use Rattle.design_defs.specs.Ports.{is_input, is_output, port_of_pin}
 use Rattle.design_defs.specs.Ranges.{bit_name, width}
 use Rattle.design_defs.proofs.OneDesign.{one_source}
+use Rattle.design_defs.proofs.BitOrders.{spot_of_parts}
 use Rattle.design_laws.proofs.LinkCases.{IsInputSpot, IsLinkBy, link_by, no_child, port_there}
 use Rattle.design_laws.proofs.ModelFeeds.{in_of_line, model_port, one_line, out_of_line, port_of_net}
 use Rattle.design_laws.proofs.NoTwoNames.{one_port}
 use Rattle.design_laws.proofs.PortBitNames.{one_port_bit, same_unless}
-use Rattle.design_laws.proofs.PortBits.{port_of_way, spot_of_parts}
+use Rattle.design_laws.proofs.PortBits.{port_of_way}
 
 -- INPUTS AND OUTPUTS. A bit of an output port of an instance.
 record IsOutputSpot (s : Sources) (x : Spot) : Type 0 where

@@ -1,5 +1,5 @@
 -- In a made design no two instances, ports or port bits have one joined name.
-use Rattle.std.proofs.Common.{◌≡◌, ◌≢◌, ℕ, ◌<◌, ◌⊎◌, List, [], ◌∷◌, inl, inr, ap, ◌∙◌, subst, arith}
+use Rattle.std.proofs.Common.{◌≡◌, ◌≢◌, ℕ, ◌⊎◌, List, [], ◌∷◌, inl, inr, ap, subst, arith}
 use Rattle.std.proofs.lemmas.Bool.{cases_order}
 use Rattle.pw_defs.specs.declared.design.Design.{Design}
 use Rattle.pw_defs.specs.declared.design.Named.{Named}

@@ -1,5 +1,5 @@
 -- In a hierarchy without faults no two port bits of an instance have one name.
-use Rattle.std.proofs.Common.{◌≡◌, ◌≢◌, ℕ, ◌<◌, ◌⊎◌, Option, Some, None, inl, inr, refl, sym, ◌∙◌, subst, arith}
+use Rattle.std.proofs.Common.{◌≡◌, ◌≢◌, ℕ, ◌<◌, Option, Some, None, inl, inr, refl, sym, subst, arith}
 use Rattle.std.proofs.lemmas.Bool.{cases_order}
 use Rattle.pw_defs.specs.declared.netlist.Port.{Port}
 use Rattle.design_defs.specs.DesignFaults.{HasPortAt, HasThingName, IsFaultless, Thing}

@@ -1,15 +1,16 @@
 -- In a made design each port bit is one bit, and its instance owns it.
-use Rattle.std.proofs.Common.{◌≡◌, ℕ, ◌<◌, List, Option, Some, option_and_then, option_map, slice_get, sym, ap, ◌∙◌, subst}
+use Rattle.std.proofs.Common.{◌≡◌, ℕ, List, Option, Some, option_and_then, option_map, slice_get, sym, ap, ◌∙◌, subst}
 use Rattle.std.proofs.lemmas.Option.{same_Some}
 use Rattle.pw_defs.specs.declared.design.Bit.{Bit}
 use Rattle.pw_defs.specs.declared.design.Design.{Design}
 use Rattle.pw_defs.specs.declared.design.PortBit.{PortBit}
 use Rattle.pw_defs.specs.declared.netlist.Port.{Port}
-use Rattle.design_defs.specs.Bits.{IsSpot, Spot, port_bit_of}
+use Rattle.design_defs.specs.Bits.{IsSpot, port_bit_of}
 use Rattle.design_defs.specs.DesignFaults.{HasPortAt, IsFaultless}
 use Rattle.design_defs.specs.Designs.{IsMadeFrom}
 use Rattle.design_defs.specs.Hierarchy.{Sources, Way, body_at, ports_in}
 use Rattle.design_defs.specs.Sound.{HasPortBits, IsBitOf}
+use Rattle.design_defs.proofs.BitOrders.{spot_of_parts}
 use Rattle.design_laws.proofs.Numbered.{IsSpotOf, IsWayOf, bit_of_spot, is_spot, one_bit_number, one_number, one_way, spot_number, spot_of_bit, way_of_port}
 use Rattle.design_laws.proofs.PortSpots.{port_of_bit, port_spot, range_of_port}
 
@@ -38,9 +39,6 @@ port_of_way s v w k p q same has other = same_Some p q (sym (found v p has) ∙ 
     found way r is =
         ap (λ o. option_and_then (λ (ports : List Port). slice_get ports k) (option_and_then (ports_in s) o)) is.2
         ∙ ap (option_and_then (λ (ports : List Port). slice_get ports k)) is.3 ∙ is.4
-
-pub spot_of_parts : (x y : Spot) → x.way ≡ y.way → x.net ≡ y.net → x.place ≡ y.place → x ≡ y
-spot_of_parts x y e f g = λ i. record { way = e i; net = f i; place = g i }
 
 -- bits of one port bit stand at one place
 pub spot_of_port : (s : Sources) (d : Design) (made : IsMadeFrom s d) (p : PortBit) (way : Way) (port : Port) → IsWayOf made p.inst way

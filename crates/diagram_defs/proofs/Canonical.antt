@@ -1,12 +1,12 @@
 -- In a table where no node is empty and no two are equal, each set of rests of a level has one number.
-use Rattle.std.proofs.Common.{◌≡◌, ◌≢◌, ℕ, zero, suc, ◌+◌, ◌≤◌, ◌<◌, Bool, true, false, ◌⊎◌, List, [], ◌∷◌, ◌++◌, Option, Some, None, length, get_or, refl, sym, ap, ◌∙◌, subst, inl, inr, arith}
+use Rattle.std.proofs.Common.{◌≡◌, ◌≢◌, ℕ, zero, suc, ◌+◌, ◌<◌, true, false, List, [], ◌∷◌, Some, length, get_or, sym, ap, ◌∙◌, inl, inr, arith}
 use Rattle.std.specs.List.{slice_get}
 use Rattle.std.proofs.lemmas.List.{ext_get_or}
 use Rattle.std.proofs.lemmas.Bool.{cases_eq, eq-eqb, false≢true}
-use Rattle.diagram_defs.specs.Diagrams.{Shape, kid, member, IsKid, AreKids, IsNode, AreNodes, AreSharp}
+use Rattle.diagram_defs.specs.Diagrams.{Shape, kid, member, IsKid, AreKids, AreNodes, AreSharp}
 use Rattle.diagram_defs.specs.Diagrams.IsKid.{empty, whole, node}
 use Rattle.diagram_defs.specs.Sets.{case_set}
-use Rattle.diagram_defs.proofs.Meaning.{kid-node, kids_of-node, member-empty, same_shapes, IsKid-kid, IsKid-more}
+use Rattle.diagram_defs.proofs.Meaning.{kid-node, member-empty, same_shapes, IsKid-kid}
 
 module _ (arities : List ℕ) (nodes : List Shape) (sound : AreNodes arities nodes) (sharp : AreSharp nodes) where
   -- only 0 is empty

@@ -1,11 +1,10 @@
 -- A table that grows keeps what its numbers mean.
-use Rattle.std.proofs.Common.{◌≡◌, ◌≢◌, ℕ, zero, suc, ◌+◌, ◌≤◌, ◌<◌, Bool, true, false, ◌⊎◌, List, [], ◌∷◌, ◌++◌, Option, Some, None, length, get_or, refl, sym, ap, ◌∙◌, subst, inl, inr, arith, append-nil, append_assoc, length-append}
+use Rattle.std.proofs.Common.{◌≡◌, ℕ, ◌+◌, ◌≤◌, Bool, List, [], ◌∷◌, ◌++◌, length, refl, sym, ap, ◌∙◌, subst, arith, append-nil, append_assoc, length-append}
 use Rattle.std.specs.List.{slice_get}
-use Rattle.std.proofs.lemmas.Option.{slice_get_within}
 use Rattle.list_defs.proofs.Longer.{slice_get-append}
-use Rattle.diagram_defs.specs.Diagrams.{Shape, Diagram, kid, member, IsKid, AreKids, IsNode, AreNodes, IsPool, IsSet, IsNumberFor, Grows}
+use Rattle.diagram_defs.specs.Diagrams.{Shape, Diagram, kid, member, IsKid, AreNodes, IsPool, IsSet, IsNumberFor, Grows}
 use Rattle.diagram_defs.specs.Diagrams.IsKid.{empty, whole, node}
-use Rattle.diagram_defs.proofs.Meaning.{kid-node, member-empty, IsKid-kid, IsKid-more}
+use Rattle.diagram_defs.proofs.Meaning.{kid-node, IsKid-kid, IsKid-more}
 
 module _ (arities : List ℕ) (nodes more : List Shape) where
   pub IsKid-append : (places level n : ℕ) → IsKid arities nodes places level n → IsKid arities (nodes ++ more) places level n

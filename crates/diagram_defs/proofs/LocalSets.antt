@@ -5,7 +5,7 @@ use Rattle.std.proofs.lemmas.Bool.{and_parts, false≢true}
 use Rattle.diagram_defs.specs.Rests.{is_rest}
 use Rattle.diagram_defs.specs.Diagrams.{Diagram, member, IsPool, IsSet, IsNumberFor, AreRests, Grows}
 use Rattle.diagram_defs.specs.declared.locals.Local.{Local}
-use Rattle.diagram_defs.specs.Locals.{IsLocal, IsLocalFor, states_from, states_of}
+use Rattle.diagram_defs.specs.Locals.{IsLocal, IsLocalFor, states_from}
 use Rattle.diagram_defs.specs.Sets.{widened_set}
 use Rattle.diagram_defs.specs.Parts.{IsPartOf}
 use Rattle.diagram_defs.proofs.Guards.{guard_alone}

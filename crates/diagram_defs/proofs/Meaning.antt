@@ -1,9 +1,9 @@
 -- What the numbers of a table mean, step by step.
-use Rattle.std.proofs.Common.{◌≡◌, ◌≢◌, ℕ, zero, suc, ◌+◌, ◌≤◌, ◌<◌, Bool, true, false, ◌⊎◌, List, [], ◌∷◌, ◌++◌, Option, Some, None, length, get_or, refl, sym, ap, ◌∙◌, subst, inl, inr, arith}
+use Rattle.std.proofs.Common.{◌≡◌, ◌≢◌, ℕ, suc, ◌+◌, ◌≤◌, ◌<◌, Bool, false, List, [], ◌∷◌, Option, Some, length, get_or, refl, sym, ap, ◌∙◌, subst, inl, inr, arith}
 use Rattle.std.specs.List.{slice_get}
 use Rattle.std.proofs.lemmas.List.{get_or_past}
 use Rattle.std.proofs.lemmas.Bool.{cases_lt}
-use Rattle.diagram_defs.specs.Diagrams.{Shape, Diagram, kids_in, kids_of, kid, member, IsKid, IsSet, AreKids, IsNode, AreNodes, IsPool}
+use Rattle.diagram_defs.specs.Diagrams.{Shape, Diagram, kids_in, kids_of, kid, member, IsKid, IsSet, AreNodes, IsPool}
 use Rattle.diagram_defs.specs.Diagrams.IsKid.{empty, whole, node}
 
 -- two tests that agree on all rests are one

@@ -1,17 +1,17 @@
 -- Parts of sets, and the nodes that a row of operations adds.
-use Rattle.std.proofs.Common.{◌≡◌, ◌≢◌, ℕ, zero, suc, ◌+◌, ◌≤◌, ◌<◌, Bool, true, false, ◌⊎◌, List, [], ◌∷◌, ◌++◌, Option, Some, None, length, get_or, refl, sym, ap, ◌∙◌, subst, inl, inr, arith, append_assoc, length-append, Result, Ok, Err, IfOk, IfErr, IsErrAnd}
+use Rattle.std.proofs.Common.{◌≡◌, ℕ, ◌+◌, ◌<◌, Bool, true, List, [], ◌++◌, length, refl, sym, ap, ◌∙◌, subst, inl, inr, arith, append_assoc, length-append, Result, Ok, Err, IfOk, IfErr, IsErrAnd}
 use Rattle.std.specs.List.{slice_get}
 use Rattle.std.proofs.lemmas.Bool.{cases_lt}
 use Rattle.std.proofs.lemmas.Option.{slice_get_within}
 use Rattle.plain_lists.specs.declared.faults.DiagFault.{DiagFault}
 use Rattle.plain_lists.specs.declared.faults.DiagFault.TheVariants.{Bound, Memory}
-use Rattle.diagram_defs.specs.Diagrams.{Shape, Diagram, member, IsKid, AreNodes, IsPool, IsSet, IsNumberFor, Grows}
+use Rattle.diagram_defs.specs.Diagrams.{Shape, Diagram, member, IsPool, IsSet, IsNumberFor, Grows}
 use Rattle.diagram_defs.specs.Diagrams.IsKid.{node}
-use Rattle.diagram_defs.specs.Parts.{IsPartOf, AddsParts, GrowsBy, LacksPart}
-use Rattle.diagram_defs.specs.Answers.{IsFullWithout, IsCause}
+use Rattle.diagram_defs.specs.Parts.{IsPartOf, AddsParts, GrowsBy}
+use Rattle.diagram_defs.specs.Answers.{IsCause}
 use Rattle.diagram_defs.proofs.Meaning.{same_tests}
-use Rattle.list_defs.proofs.Longer.{slice_get-append, slice_get_front}
-use Rattle.diagram_defs.proofs.Growth.{length_grows, member_grows, Grows_refl, Grows_trans, IsNumberFor_same}
+use Rattle.list_defs.proofs.Longer.{slice_get_front}
+use Rattle.diagram_defs.proofs.Growth.{member_grows, Grows_refl, Grows_trans, IsNumberFor_same}
 
 -- a nonempty set is a part of itself
 pub IsPartOf_itself : (levels base : ℕ) (set part : List ℕ → Bool) → base < levels → ((rest : List ℕ) → part rest ≡ set rest) → (rest : List ℕ) × (part rest ≡ true) → IsPartOf levels base set base part

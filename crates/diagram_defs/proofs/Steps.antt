@@ -1,12 +1,11 @@
 -- One step down a level: rests behind a value, and sets by their children.
-use Rattle.std.proofs.Common.{◌≡◌, ◌≢◌, ℕ, zero, suc, ◌+◌, ◌≤◌, ◌<◌, Bool, true, false, ◌&&◌, nat_lt, ◌⊎◌, List, [], ◌∷◌, ◌++◌, Option, Some, None, length, get_or, drop, refl, sym, ap, ◌∙◌, subst, inl, inr, arith}
-use Rattle.std.specs.List.{slice_get}
+use Rattle.std.proofs.Common.{◌≡◌, ◌≢◌, ℕ, ◌+◌, ◌≤◌, ◌<◌, Bool, true, false, ◌&&◌, List, [], ◌∷◌, ◌++◌, length, get_or, drop, refl, sym, ap, ◌∙◌, subst, inl, inr, arith}
 use Rattle.std.proofs.lemmas.List.{drop_more, drop_all, get_or_past, get_or_push, get_or_append_left, length_push}
-use Rattle.std.proofs.lemmas.Bool.{cases_lt, cases_Bool, lt-ltb, le-ltb, eqb-true, false≢true, false_from_ne_true}
+use Rattle.std.proofs.lemmas.Bool.{cases_lt, lt-ltb, le-ltb, eqb-true, false≢true, false_from_ne_true}
 use Rattle.diagram_defs.specs.Rests.{is_rest}
-use Rattle.diagram_defs.specs.Diagrams.{Shape, Diagram, kid, member, IsKid, AreKids, IsNode, AreNodes, IsPool, IsSet, IsNumberFor, AreRests, AreKidsFor, Grows}
+use Rattle.diagram_defs.specs.Diagrams.{Shape, Diagram, kid, member, IsKid, AreKids, AreNodes, IsSet, IsNumberFor, AreRests, AreKidsFor, Grows}
 use Rattle.diagram_defs.specs.Diagrams.IsKid.{empty, whole, node}
-use Rattle.diagram_defs.specs.Sets.{full_set, case_set}
+use Rattle.diagram_defs.specs.Sets.{case_set}
 use Rattle.diagram_defs.specs.Parts.{IsPartOf}
 use Rattle.diagram_defs.proofs.Growth.{IsNumberFor_grows, IsNumberFor_same}
 use Rattle.diagram_defs.proofs.PartLemmas.{IsPartOf_behind, IsPartOf_same}

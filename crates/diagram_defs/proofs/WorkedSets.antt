@@ -1,14 +1,13 @@
 -- What the numbers of a small table mean.
-use Rattle.std.proofs.Common.{◌≡◌, ℕ, Bool, true, false, List, [], ◌∷◌, refl, arith}
+use Rattle.std.proofs.Common.{◌≡◌, true, false, [], ◌∷◌, refl, arith}
 use Rattle.std.specs.declared.cmp.Ordering.TheVariants.{Less}
 use Rattle.std.proofs.lemmas.Bool.{false≢true}
 use Rattle.diagram_defs.specs.declared.quantifiers.Quantifier.TheVariants as which
-use Rattle.diagram_defs.specs.Diagrams.{IsSet, IsNumberFor, member, rests_in}
+use Rattle.diagram_defs.specs.Diagrams.{IsSet, member, rests_in}
 use Rattle.diagram_defs.specs.Diagrams.IsKid.{node}
 use Rattle.diagram_defs.specs.Locals.{IsLocal, states_of}
 use Rattle.diagram_defs.specs.Parts.{IsPartOf}
 use Rattle.diagram_defs.specs.Quantified.{quantified}
-use Rattle.diagram_defs.specs.Sets.{full_set}
 use Rattle.diagram_defs.specs.States.{state_cmp}
 use Rattle.diagram_defs.specs.Worked.{small_table, second_is_one}
 

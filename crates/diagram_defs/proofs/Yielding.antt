@@ -1,12 +1,12 @@
 -- What is left after a row of operations, where each adds allowed parts alone.
-use Rattle.std.proofs.Common.{◌≡◌, ℕ, Bool, List, ap, sym, subst, length, Result, Ok, Err, IfOk, IfErr, IsErrAnd}
+use Rattle.std.proofs.Common.{◌≡◌, ℕ, Bool, List, sym, subst, length, Result, Ok, Err, IfOk, IfErr, IsErrAnd}
 use Rattle.plain_lists.specs.declared.faults.DiagFault.{DiagFault}
 use Rattle.plain_lists.specs.declared.faults.DiagFault.TheVariants.{Memory}
-use Rattle.diagram_defs.specs.Diagrams.{Diagram, IsPool, IsNumberFor, Grows}
-use Rattle.diagram_defs.specs.Parts.{GrowsBy, IsPartOf}
+use Rattle.diagram_defs.specs.Diagrams.{Diagram, IsNumberFor}
+use Rattle.diagram_defs.specs.Parts.{GrowsBy}
 use Rattle.diagram_defs.specs.Answers.{IsCause, Yields, Makes, MakesSet}
 use Rattle.diagram_defs.proofs.Growth.{IsNumberFor_same}
-use Rattle.diagram_defs.proofs.PartLemmas.{GrowsBy_none, GrowsBy_step, GrowsBy_wider, IsCause_wider, IsPartOf_same}
+use Rattle.diagram_defs.proofs.PartLemmas.{GrowsBy_none, GrowsBy_step, IsCause_wider, IsPartOf_same}
 
 -- a fault of an operation whose parts are allowed too is passed on
 pub Yields_passed : {T : Type 0} {Allowed Smaller : ℕ → (List ℕ → Bool) → Type 0} {old mid new : Diagram} (Right : T → Type 0) (r : Result T DiagFault) (fault : DiagFault) → IsErrAnd r (λ e. e ≡ fault) → GrowsBy Allowed old mid

@@ -14,7 +14,6 @@ use Rattle.lib_cells.specs.CellsMeant.{KnownPin, cell_from, cell_of, direction_o
 use Rattle.lib_cells.specs.Marks.{CellSaid, PinsSaid, cell_by, cell_said, lone_dir, lone_flag, marks_for, marks_of, overlaid, pin_by, pins_by, pins_said, said, said_then}
 use Rattle.lib_cells.specs.CellViews.{placed_by, placed_of}
 use Rattle.lib_cells.specs.declared.libraries.PlacedCell.{PlacedCell}
-use Rattle.lib_cells.specs.declared.marks.Marks.{Marks}
 use Rattle.lib_cells.proofs.MarkLaws.{dir-said, marks-append, none-overlaid, overlaid-assoc, overlaid-none, present-first, set-said}
 
 -- the names of the pins that are named

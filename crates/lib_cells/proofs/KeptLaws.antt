@@ -1,5 +1,5 @@
 -- Loops over phrases in a row, of which less is kept than the grammar reads.
-use Rattle.std.proofs.Common.{◌≡◌, ℕ, zero, suc, Bool, true, false, List, [], ◌∷◌, ◌++◌, ◌||◌, map, Option, Some, None, Result, Ok, Err, refl, sym, ap, ◌∙◌, if◌then◌else◌}
+use Rattle.std.proofs.Common.{◌≡◌, ℕ, zero, suc, Bool, true, false, List, [], ◌∷◌, ◌++◌, ◌||◌, map, Some, None, Ok, Err, refl, sym, ap, ◌∙◌, if◌then◌else◌}
 use Rattle.text_defs.specs.Grammar.{Grammar, Reading, read, next, passes}
 use Rattle.text_defs.specs.Phrases.{many}
 use Rattle.text_defs.specs.Tokens.{Token}
@@ -9,7 +9,7 @@ use Rattle.text_streams.specs.declared.stops.Stop.TheVariants as stops
 use Rattle.text_streams.proofs.AnswerLaws.{many_on, many_fails, many_stops}
 use Rattle.lib_cells.specs.LibraryWords.{LibraryClass}
 use Rattle.lib_cells.specs.Groups.{entry}
-use Rattle.lib_cells.specs.Kept.{Shows, are_some, attribute_entry, nothing, seen}
+use Rattle.lib_cells.specs.Kept.{Shows, are_some, attribute_entry, seen}
 use Rattle.lib_cells.specs.Marks.{lone}
 
 -- a parser that stops where another one does

@@ -1,11 +1,11 @@
 -- What mentions say of pins, and what a table of pins knows when a pin is mentioned once more.
-use Rattle.std.proofs.Common.{◌≡◌, ◌≢◌, ℕ, zero, suc, Bool, true, false, not, ◌&&◌, ◌||◌, cond, List, [], ◌∷◌, ◌++◌, length, map, Option, Some, None, inl, inr, refl, sym, ap, ◌∙◌, subst, if◌then◌else◌, slice_get, slice_set, option_map}
+use Rattle.std.proofs.Common.{◌≡◌, ◌≢◌, ℕ, suc, Bool, true, false, not, ◌&&◌, ◌||◌, List, [], ◌∷◌, ◌++◌, map, Option, Some, None, inl, inr, refl, sym, ap, ◌∙◌, subst, if◌then◌else◌, slice_get, slice_set, option_map}
 use Rattle.std.specs.List.{flat_map, list_any}
 use Rattle.std.proofs.lemmas.List.{append-nil, append_assoc, map-append}
 use Rattle.std.proofs.lemmas.Bool.{true≢false, and_parts}
 use Rattle.std.proofs.lemmas.Option.{same_Some, slice_get-map}
 use Rattle.list_defs.specs.Members.{IsIn, all_differ, place_of, same_name}
-use Rattle.list_defs.proofs.Members.{IsIn-map, IsIn-slice_get}
+use Rattle.list_defs.proofs.Members.{IsIn-slice_get}
 use Rattle.list_defs.proofs.NameLemmas.{IsIn-list_any, absent-place_of, all_differ-push, list_any-IsIn, same_name-equal, same_name-itself, slice_get-place_of}
 use Rattle.text_defs.specs.FirstPlace.{firsts}
 use Rattle.lib_cells.specs.CellViews.{IsTableOf}

@@ -1,6 +1,6 @@
 -- Places of pins by their roles, as a loop finds them.
-use Rattle.std.proofs.Common.{◌≡◌, ℕ, suc, ◌+◌, ◌<◌, ◌≤◌, Bool, true, false, cond, ◌&&◌, ◌||◌, List, [], ◌∷◌, ◌++◌, length, map, Option, Some, None, drop, take, get_or, refl, sym, ap, ◌∙◌, if◌then◌else◌, unwrap_or, is_some, slice_get, subst, arith}
-use Rattle.std.specs.List.{enumerate_from, filter, filter_map, position}
+use Rattle.std.proofs.Common.{◌≡◌, ℕ, suc, ◌+◌, ◌<◌, ◌≤◌, Bool, true, false, cond, ◌&&◌, ◌||◌, List, [], ◌∷◌, ◌++◌, length, map, Option, Some, None, drop, take, get_or, refl, sym, ap, ◌∙◌, unwrap_or, is_some, slice_get, subst, arith}
+use Rattle.std.specs.List.{enumerate_from, filter, filter_map}
 use Rattle.std.specs.Option.{option_map}
 use Rattle.std.proofs.lemmas.List.{append-nil, drop_all, drop_more, map-append, take_more}
 use Rattle.std.proofs.lemmas.Option.{get_or_from_slice_get, slice_get-map}

@@ -1,5 +1,5 @@
 -- What a whole text is read as.
-use Rattle.std.proofs.Common.{◌≡◌, ◌≢◌, ℕ, List, [], ◌∷◌, map, Result, Ok, Err, refl, sym, ap, ◌∙◌, subst, codes}
+use Rattle.std.proofs.Common.{◌≡◌, ◌≢◌, ℕ, List, [], ◌∷◌, map, Ok, Err, refl, ap, ◌∙◌, subst, codes}
 use Rattle.pw_defs.specs.declared.faults.At.{At}
 use Rattle.pw_defs.specs.declared.faults.LibFault.{LibFault}
 use Rattle.pw_defs.specs.declared.faults.LibFault.TheVariants.{L1, L2, L3, Memory}
@@ -8,12 +8,12 @@ use Rattle.text_defs.specs.Tokens.{Token, line_left}
 use Rattle.text_streams.specs.declared.stops.Stop.{Stop}
 use Rattle.text_streams.specs.declared.stops.Stop.TheVariants as stops
 use Rattle.lib_cells.specs.LibraryWords.{LibraryClass, library_tokens}
-use Rattle.lib_cells.specs.Groups.{CellGroup, library_group}
+use Rattle.lib_cells.specs.Groups.{library_group}
 use Rattle.lib_cells.specs.CellViews.{placed_of}
 use Rattle.lib_cells.specs.Kept.{Shows}
 use Rattle.lib_cells.specs.Readings.{IsCutAt, ReadsGroups, ShowsWhole}
 use Rattle.lib_cells.specs.declared.libraries.PlacedCell.{PlacedCell}
-use Rattle.lib_cells.proofs.LibraryLaws.{fault_read, groups_read}
+use Rattle.lib_cells.proofs.LibraryLaws.{fault_read}
 
 -- a whole text that was read to its end
 pub whole_ok : {K A : Type 0} (g : Grammar K A) (old rest : List K) (x : A) → read g old ≡ Ok (x, rest) → rest ≡ [] → read_whole g old ≡ Ok x

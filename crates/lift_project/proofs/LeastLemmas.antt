@@ -1,14 +1,10 @@
 -- How the least state of a set begins.
-use Rattle.std.proofs.Common.{◌≡◌, ◌≢◌, ℕ, ◌<◌, true, ◌⊎◌, List, [], ◌∷◌, ◌++◌, length, get_or, refl, sym, ap, ◌∙◌, subst, inl, inr, arith, append_assoc, append-nil}
-use Rattle.std.specs.Ordering.{ordering_then}
-use Rattle.std.specs.Cmp.{nat_cmp_is}
-use Rattle.std.specs.declared.cmp.Ordering.{Ordering}
-use Rattle.std.specs.declared.cmp.Ordering.TheVariants.{Less, Equal, Greater}
-use Rattle.std.proofs.lemmas.Bool.{cases_order, cases_lt, eqb-true, false≢true}
-use Rattle.std.proofs.lemmas.List.{get_or_past}
-use Rattle.diagram_defs.specs.Diagrams.{Shape, Diagram, kid, member, IsSet, IsPool}
-use Rattle.diagram_defs.specs.Diagrams.IsKid.{empty, whole, node}
-use Rattle.diagram_defs.proofs.Meaning.{member-empty, kid-node}
+use Rattle.std.proofs.Common.{◌≡◌, ◌≢◌, ℕ, ◌<◌, true, ◌⊎◌, List, [], ◌∷◌, ◌++◌, refl, sym, ap, ◌∙◌, subst, inl, inr, append_assoc, append-nil}
+use Rattle.std.specs.declared.cmp.Ordering.TheVariants.{Less, Greater}
+use Rattle.std.proofs.lemmas.Bool.{cases_order, eqb-true, false≢true}
+use Rattle.diagram_defs.specs.Diagrams.{Shape, kid, member}
+use Rattle.diagram_defs.specs.Diagrams.IsKid.{whole}
+use Rattle.diagram_defs.proofs.Meaning.{member-empty}
 use Rattle.diagram_defs.specs.States.{state_cmp}
 use Rattle.diagram_defs.proofs.StateOrder.{cmp_front, cmp_itself, cmp_above}
 

@@ -1,8 +1,8 @@
 -- Lists that grow at their end can still be read.
-use Rattle.std.proofs.Common.{◌≡◌, ℕ, zero, suc, ◌<◌, ◌≤◌, ◌⊎◌, inl, inr, List, [], ◌∷◌, ◌++◌, Some, length, get_or, sym, ap, subst, arith}
-use Rattle.std.specs.List.{slice_get}
+use Rattle.std.proofs.Common.{◌≡◌, ◌≢◌, ℕ, zero, suc, ◌+◌, ◌-◌, ◌<◌, ◌≤◌, ◌⊎◌, inl, inr, List, [], ◌∷◌, ◌++◌, Some, length, get_or, take, drop, set, refl, sym, ap, ◌∙◌, subst, arith}
+use Rattle.std.specs.List.{slice_get, slice_range}
 use Rattle.std.proofs.lemmas.Bool.{cases_lt}
-use Rattle.std.proofs.lemmas.List.{get_or_append_left, get_or_at, length_push}
+use Rattle.std.proofs.lemmas.List.{drop-append-le, drop_at, get_or_append_left, get_or_at, length-drop, length_push, take-append-le, take_all}
 use Rattle.std.proofs.lemmas.Option.{none-some}
 
 pub slice_get-append : {X : Type 0} (xs ys : List X) (i : ℕ) (x : X) → slice_get xs i ≡ Some x → slice_get (xs ++ ys) i ≡ Some x
@@ -31,3 +31,26 @@ each_more P xs y d old new n within = by (cases_lt n (length xs))
         let last : length xs ≡ n = omega (arith, length_push xs y) in
         let Q : ℕ → Type 0 = λ k. P k y in
         subst (P n) (sym (get_or_at xs y [] d n last)) (subst Q last new)
+
+-- a part of a list is the same part of a longer one
+pub early_part : {X : Type 0} (xs more : List X) (from end : ℕ) → from ≤ end → end ≤ length xs → slice_range (xs ++ more) from end ≡ slice_range xs from end
+early_part xs more from end rises within =
+    ap (take (end - from)) (drop-append-le from xs more (omega arith)) ∙ take-append-le (end - from) (drop from xs) more (omega (arith, length-drop from xs))
+
+-- what stands behind a list is the part of the longer one from its end on
+pub last_part : {X : Type 0} (xs more : List X) (from end : ℕ) → from ≡ length xs → end ≡ length xs + length more → slice_range (xs ++ more) from end ≡ more
+last_part xs more from end starts ends =
+    ap (take (end - from)) (drop_at xs more from (sym starts)) ∙ take_all (end - from) more (omega arith)
+
+-- LISTS in which one place is set
+pub slice_get-set_same : {X : Type 0} (xs : List X) (i : ℕ) (y : X) → i < length xs → slice_get (set xs i y) i ≡ Some y
+slice_get-set_same [] i y within = absurd (omega arith)
+slice_get-set_same (x ∷ xs) zero y within = refl
+slice_get-set_same (x ∷ xs) (suc i) y within = slice_get-set_same xs i y (omega arith)
+
+pub slice_get-set_other : {X : Type 0} (xs : List X) (i j : ℕ) (y : X) → j ≢ i → slice_get (set xs i y) j ≡ slice_get xs j
+slice_get-set_other [] i j y other = refl
+slice_get-set_other (x ∷ xs) zero zero y other = absurd (other refl)
+slice_get-set_other (x ∷ xs) zero (suc j) y other = refl
+slice_get-set_other (x ∷ xs) (suc i) zero y other = refl
+slice_get-set_other (x ∷ xs) (suc i) (suc j) y other = slice_get-set_other xs i j y (λ same. other (ap suc same))

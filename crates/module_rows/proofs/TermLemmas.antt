@@ -1,12 +1,12 @@
 -- Spellings and expressions that grow.
-use Rattle.std.proofs.Common.{◌≡◌, ℕ, zero, suc, ◌+◌, ◌-◌, ◌<◌, ◌≤◌, ◌⊎◌, inl, inr, List, [], ◌∷◌, ◌++◌, length, get_or, take, drop, refl, sym, ap, ◌∙◌, subst, arith, append_assoc, append-nil}
+use Rattle.std.proofs.Common.{◌≡◌, ℕ, zero, suc, ◌+◌, ◌-◌, ◌<◌, ◌≤◌, List, [], ◌∷◌, ◌++◌, length, get_or, take, drop, refl, sym, ap, ◌∙◌, arith, append_assoc, append-nil}
 use Rattle.std.specs.Prelude.{MatchOption, MatchResult, Option, Some, None, Result, Ok, Err, IfOk, slice_get}
 use Rattle.list_defs.specs.Members.{place_of, same_name}
+use Rattle.list_defs.proofs.Longer.{early_part}
 use Rattle.list_defs.proofs.NameLemmas.{slice_get-place_of}
 use Rattle.std.specs.List.{All, flat_map, slice_range}
 use Rattle.std.specs.declared.alloc.AllocError.{AllocError}
-use Rattle.std.proofs.lemmas.Bool.{cases_lt}
-use Rattle.std.proofs.lemmas.List.{drop-append-le, get_or_append_left, get_or_at, length-append, length-drop, length_push, take-append-le}
+use Rattle.std.proofs.lemmas.List.{get_or_append_left, length-append, take-append-le}
 use Rattle.std.proofs.lemmas.List.Elements.{All-drop, All-take}
 use Rattle.std.proofs.lemmas.List.Folds.{flat_map-map}
 use Rattle.pw_defs.specs.declared.netlist.Expr.{Expr}
@@ -51,10 +51,6 @@ extends_trans xs ys zs (more, is) (most, all) = (more ++ most, all ∙ ap (λ fr
 
 pub extends_length : {X : Type 0} (xs ys : List X) → Extends xs ys → length xs ≤ length ys
 extends_length xs ys (more, is) = omega (arith, ap length is, length-append xs more)
-
-pub early_part : {X : Type 0} (row more : List X) (from end : ℕ) → from ≤ end → end ≤ length row → slice_range (row ++ more) from end ≡ slice_range row from end
-early_part row more from end rises within =
-    ap (take (end - from)) (drop-append-le from row more (omega arith)) ∙ take-append-le (end - from) (drop from row) more (omega (arith, length-drop from row))
 
 pub extends_part : {X : Type 0} (xs ys : List X) (from end : ℕ) → Extends xs ys → from ≤ end → end ≤ length xs → slice_range ys from end ≡ slice_range xs from end
 extends_part xs ys from end (more, is) rises within = ap (λ all. slice_range all from end) is ∙ early_part xs more from end rises within

@@ -1,8 +1,8 @@
 -- The parts of a row that is cut, by place, and one part more.
-use Rattle.std.proofs.Common.{◌≡◌, ℕ, suc, zero, ◌+◌, ◌-◌, ◌<◌, ◌≤◌, List, [], ◌∷◌, ◌++◌, length, get_or, take, drop, Some, slice_get, refl, sym, ap, ◌∙◌, subst, arith}
-use Rattle.std.proofs.lemmas.List.{length-drop, drop_at, drop-append-le, take-append-le, take_all}
+use Rattle.std.proofs.Common.{◌≡◌, ℕ, suc, zero, ◌+◌, ◌-◌, ◌<◌, ◌≤◌, List, [], ◌∷◌, ◌++◌, length, get_or, Some, slice_get, refl, ap, ◌∙◌, subst, arith}
 use Rattle.std.proofs.lemmas.Grind.{get_or_tail}
 use Rattle.std.specs.List.{slice_range}
+use Rattle.list_defs.proofs.Longer.{early_part, last_part}
 use Rattle.name_rows.specs.Cuts.{AreCuts, cuts}
 
 pub length-cuts : {X : Type 0} (row : List X) (from : ℕ) (ends : List ℕ) → length (cuts row from ends) ≡ length ends
@@ -30,14 +30,6 @@ part_within from (e ∷ ends) end (suc n) cut within = part_within e ends end n 
 pub cut_more : (from : ℕ) (ends : List ℕ) (end more : ℕ) → AreCuts from ends end → end ≤ more → AreCuts from (ends ++ more ∷ []) more
 cut_more from [] end more cut rises = (omega (arith, cut), refl)
 cut_more from (e ∷ ends) end more cut rises = (cut.0, cut_more e ends end more cut.1 rises)
-
-last_part : {X : Type 0} (row more : List X) (from end : ℕ) → from ≡ length row → end ≡ length row + length more → slice_range (row ++ more) from end ≡ more
-last_part row more from end starts ends =
-    ap (take (end - from)) (drop_at row more from (sym starts)) ∙ take_all (end - from) more (omega arith)
-
-early_part : {X : Type 0} (row more : List X) (from end : ℕ) → from ≤ end → end ≤ length row → slice_range (row ++ more) from end ≡ slice_range row from end
-early_part row more from end rises within =
-    ap (take (end - from)) (drop-append-le from row more (omega arith)) ∙ take-append-le (end - from) (drop from row) more (omega (arith, length-drop from row))
 
 -- what is added at the end of the row is one part more
 pub cuts_more : {X : Type 0} (row more : List X) (from : ℕ) (ends : List ℕ) (end : ℕ) → AreCuts from ends (length row) → end ≡ length row + length more

@@ -18,13 +18,6 @@ get_pushed [] y (suc at) z e = cc
 get_pushed (x ∷ xs) y zero z e = inl e
 get_pushed (x ∷ xs) y (suc at) z e = elim (get_pushed xs y at z e) [ inl old ↦ inl old | inr new ↦ inr (omega (arith, new.0), new.1) ]
 
-pub get_set_other : {X : Type 0} (xs : List X) (i j : ℕ) (v : X) → j ≢ i → slice_get (set xs i v) j ≡ slice_get xs j
-get_set_other [] i j v other = refl
-get_set_other (x ∷ xs) zero zero v other = absurd (other refl)
-get_set_other (x ∷ xs) zero (suc j) v other = refl
-get_set_other (x ∷ xs) (suc i) zero v other = refl
-get_set_other (x ∷ xs) (suc i) (suc j) v other = get_set_other xs i j v (λ e. other (ap suc e))
-
 pub get_set_same : {X : Type 0} (xs : List X) (i : ℕ) (v w : X) → slice_get (set xs i v) i ≡ Some w → v ≡ w
 get_set_same [] i v w e = cc
 get_set_same (x ∷ xs) zero v w e = same_Some v w e

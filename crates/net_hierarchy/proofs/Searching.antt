@@ -14,7 +14,8 @@ use Rattle.net_hierarchy.specs.declared.search.Frame.{Frame}
 use Rattle.net_hierarchy.specs.declared.search.Item.TheVariants.{End, Leaf, Module as ModuleItem}
 use Rattle.net_hierarchy.specs.declared.search.Mark.{Mark}
 use Rattle.net_hierarchy.specs.declared.search.Mark.TheVariants.{New, Open, Done}
-use Rattle.net_hierarchy.proofs.Places.{get_pushed, get_replicate, get_set_other, get_set_same, in_take_all, in_take_more, same_or_not}
+use Rattle.list_defs.proofs.Longer.{slice_get-set_other}
+use Rattle.net_hierarchy.proofs.Places.{get_pushed, get_replicate, get_set_same, in_take_all, in_take_more, same_or_not}
 
 -- what stands in the row of a module
 pub record IsItem (types : Types) (f : Frame) (k : ℕ) : Type 0 where
@@ -140,7 +141,7 @@ module _ (types : Types) (top : ℕ) (marks : List Mark) (order : List ℕ) (sta
       done n e =
           elim (same_or_not n k) [
             | inl same ↦ (let one : Open ≡ Done = get_set_same marks k Open Done (subst (λ j. slice_get (set marks k Open) j ≡ Some Done) same e) in cc)
-            | inr other ↦ is.done n (sym (get_set_other marks k n Open other) ∙ e)
+            | inr other ↦ is.done n (sym (slice_get-set_other marks k n Open other) ∙ e)
           ]
 
       open_there : (n : ℕ) → slice_get (set marks k Open) n ≡ Some Open → (at : ℕ) × (h : Frame) × (slice_get ((stack ++ f ∷ []) ++ new ∷ []) at ≡ Some h) × (h.number ≡ n)
@@ -148,7 +149,7 @@ module _ (types : Types) (top : ℕ) (marks : List Mark) (order : List ℕ) (sta
           elim (same_or_not n k) [
             | inl same ↦ (length (stack ++ f ∷ []), new, slice_get_last (stack ++ f ∷ []) new (length (stack ++ f ∷ [])) refl, sym same)
             | inr other ↦
-                (let old = is.open_there n (sym (get_set_other marks k n Open other) ∙ e) in
+                (let old = is.open_there n (sym (slice_get-set_other marks k n Open other) ∙ e) in
                 (old.0, old.1, slice_get-append (stack ++ f ∷ []) (new ∷ []) old.0 old.1 old.2, old.3))
           ]
 
@@ -232,14 +233,14 @@ module _ (types : Types) (top : ℕ) (marks : List Mark) (order : List ℕ) (sta
       done n e =
           elim (same_or_not n f.number) [
             | inl same ↦ subst (λ j. IsIn j (order ++ f.number ∷ [])) (sym same) in_last
-            | inr other ↦ IsIn-append_left n order (f.number ∷ []) (is.done n (sym (get_set_other marks f.number n Done other) ∙ e))
+            | inr other ↦ IsIn-append_left n order (f.number ∷ []) (is.done n (sym (slice_get-set_other marks f.number n Done other) ∙ e))
           ]
 
       open_there : (n : ℕ) → slice_get (set marks f.number Done) n ≡ Some Open → (at : ℕ) × (h : Frame) × (slice_get stack at ≡ Some h) × (h.number ≡ n)
       open_there n e =
           elim (same_or_not n f.number) [
             | inl same ↦ (let one : Done ≡ Open = get_set_same marks f.number Done Open (subst (λ j. slice_get (set marks f.number Done) j ≡ Some Open) same e) in cc)
-            | inr other ↦ older other (is.open_there n (sym (get_set_other marks f.number n Done other) ∙ e))
+            | inr other ↦ older other (is.open_there n (sym (slice_get-set_other marks f.number n Done other) ∙ e))
           ]
         where
           older : n ≢ f.number → (at : ℕ) × (h : Frame) × (slice_get (stack ++ f ∷ []) at ≡ Some h) × (h.number ≡ n)
@@ -308,14 +309,14 @@ search_starts types top count = record {
     done n e =
         elim (same_or_not n top) [
           | inl same ↦ (let one : Open ≡ Done = get_set_same (replicate count New) top Open Done (subst (λ j. slice_get (set (replicate count New) top Open) j ≡ Some Done) same e) in cc)
-          | inr other ↦ (let one : New ≡ Done = get_replicate count New Done n (sym (get_set_other (replicate count New) top n Open other) ∙ e) in cc)
+          | inr other ↦ (let one : New ≡ Done = get_replicate count New Done n (sym (slice_get-set_other (replicate count New) top n Open other) ∙ e) in cc)
         ]
 
     open_there : (n : ℕ) → slice_get (set (replicate count New) top Open) n ≡ Some Open → (at : ℕ) × (h : Frame) × (slice_get (new ∷ []) at ≡ Some h) × (h.number ≡ n)
     open_there n e =
         elim (same_or_not n top) [
           | inl same ↦ (0, new, refl, sym same)
-          | inr other ↦ (let one : New ≡ Open = get_replicate count New Open n (sym (get_set_other (replicate count New) top n Open other) ∙ e) in cc)
+          | inr other ↦ (let one : New ≡ Open = get_replicate count New Open n (sym (slice_get-set_other (replicate count New) top n Open other) ∙ e) in cc)
         ]
 
 -- the same state

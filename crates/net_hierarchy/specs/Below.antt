@@ -1,5 +1,5 @@
 -- What is at the end of a way below a body.
-use Rattle.std.specs.Prelude.{List, [], ◌∷◌, Option, Some, option_and_then}
+use Rattle.std.specs.Prelude.{[], ◌∷◌, Option, Some, option_and_then}
 use Rattle.pw_defs.specs.declared.design.Body.{Body}
 use Rattle.design_defs.specs.Hierarchy.{Sources, Way, body_inside}
 

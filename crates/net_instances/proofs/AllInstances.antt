@@ -1,6 +1,5 @@
 -- The rows of a tree are those of all instances.
-use Rattle.std.proofs.Common.{◌≡◌, ◌≢◌, ◌⊎◌, ℕ, zero, suc, ◌+◌, ◌<◌, ◌≤◌, List, [], ◌∷◌, Option, None, Some, get_or, length, map, option_map, option_and_then, slice_get, inl, inr, refl, sym, ap, ◌∙◌, subst, arith}
-use Rattle.std.specs.List.{All, sum_by}
+use Rattle.std.proofs.Common.{◌≡◌, ◌⊎◌, ℕ, zero, suc, ◌+◌, ◌<◌, ◌≤◌, List, [], ◌∷◌, Option, Some, get_or, length, map, option_map, option_and_then, slice_get, inl, inr, refl, sym, ap, ◌∙◌, subst, arith}
 use Rattle.std.proofs.lemmas.Bool.{cases_lt}
 use Rattle.std.proofs.lemmas.List.{get_or_past, length-map}
 use Rattle.std.proofs.lemmas.Option.{get_or_from_slice_get, same_Some, slice_get-get_or, slice_get-map, slice_get_within}
@@ -18,16 +17,15 @@ use Rattle.module_rows.specs.declared.plain.Netlist.{Netlist}
 use Rattle.module_rows.specs.Reads.{inst_at, no_inst}
 use Rattle.module_rows.specs.Growth.{no_module}
 use Rattle.module_rows.specs.Reads as reads
-use Rattle.module_rows.specs.View.{name_at}
 use Rattle.net_hierarchy.specs.Graph.{AreInstsApart, Types, types_of}
 use Rattle.net_sizes.specs.declared.sizes.Counts.{Counts}
-use Rattle.net_hierarchy.proofs.Ways.{IsLine, inside_of_line, top_at}
+use Rattle.net_hierarchy.proofs.Ways.{inside_of_line, top_at}
 use Rattle.net_instances.specs.declared.numbering.InstanceRow.{InstanceRow}
 use Rattle.net_instances.specs.declared.numbering.Instances.{Instances}
 use Rattle.net_instances.specs.declared.tree.TreeRow.{TreeRow}
-use Rattle.net_instances.specs.Instances.{AreInstances, AreNamedInsts, AreRowsOf, HasChildAt, IsInsideAt, IsInstanceRow, IsLineOf, IsRowOf, own_bits}
+use Rattle.net_instances.specs.Instances.{AreInstances, AreNamedInsts, AreRowsOf, HasChildAt, IsInsideAt, IsInstanceRow, IsLineOf, IsRowOf}
 use Rattle.net_instances.specs.Orders.{IsInOrder}
-use Rattle.net_instances.specs.Trees.{IsChild, IsTree, holder_of, lines_in, name_in, name_of, parent_in, type_at}
+use Rattle.net_instances.specs.Trees.{IsTree, holder_of, lines_in, name_in, name_of, parent_in, type_at}
 use Rattle.net_instances.specs.Ways.{AreNamed, AreAllNamed, way_in, way_to}
 use Rattle.net_instances.proofs.DownLemmas.{parent_is, parent_lower, top_way, way_parts}
 

@@ -2,13 +2,12 @@
 use Rattle.std.proofs.Common.{◌≡◌, ◌≢◌, ◌⊎◌, ℕ, zero, suc, ◌+◌, ◌-◌, ◌<◌, ◌≤◌, ◌==◌, Bool, true, false, cond, List, [], ◌∷◌, ◌++◌, Option, None, Some, length, slice_index, take, drop, inl, inr, refl, sym, ap, ◌∙◌, subst, arith, append_assoc, ltb, eqb}
 use Rattle.std.proofs.lemmas.Bool.{cases_lt, eqb-true, ltb-false, ltb-true}
 use Rattle.std.specs.Bool.{⊤}
-use Rattle.std.specs.List.{AllByRecursion}
-use Rattle.std.specs.Ordering.{nat_cmp, ordering_then}
+use Rattle.std.specs.Ordering.{ordering_then}
 use Rattle.std.specs.declared.cmp.Ordering.{Ordering}
 use Rattle.std.specs.declared.cmp.Ordering.TheVariants.{Less, Equal, Greater}
 use Rattle.std.proofs.lemmas.List.{append-nil}
 use Rattle.list_defs.specs.Orders.{name_cmp}
-use Rattle.design_defs.specs.Hierarchy.{Way, path, paths, way_cmp}
+use Rattle.design_defs.specs.Hierarchy.{Way, path, way_cmp}
 use Rattle.design_defs.specs.Names.{joined}
 use Rattle.net_instances.specs.declared.tree.TreeRow.{TreeRow}
 use Rattle.net_instances.specs.Trees.{name_in, parent_in}

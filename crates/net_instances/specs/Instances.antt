@@ -1,8 +1,6 @@
 -- All instances of a hierarchy, by their numbers.
 use Rattle.std.specs.Prelude.{◌≡◌, ◌≢◌, ◌+◌, ℕ, List, [], ◌∷◌, Option, Some, length, option_and_then, option_map, slice_get, take}
 use Rattle.std.specs.List.{sum_by}
-use Rattle.pw_defs.specs.declared.design.Body.{Body}
-use Rattle.pw_defs.specs.declared.design.Body.TheVariants.{Module as ModuleBody}
 use Rattle.pw_defs.specs.declared.netlist.Inst.{Inst}
 use Rattle.pw_defs.specs.declared.netlist.Module.{Module}
 use Rattle.list_defs.specs.Members.{IsIn}

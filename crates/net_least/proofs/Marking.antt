@@ -8,11 +8,12 @@ use Rattle.pw_defs.specs.declared.design.Body.{Body}
 use Rattle.pw_defs.specs.declared.design.Body.TheVariants.{Module as ModuleBody, Cell as CellBody, Model as ModelBody}
 use Rattle.list_defs.specs.Members.{IsIn}
 use Rattle.net_hierarchy.specs.Graph.{Types}
-use Rattle.net_hierarchy.proofs.Places.{get_replicate, get_set_other, same_or_not}
+use Rattle.list_defs.proofs.Longer.{slice_get-set_other}
+use Rattle.net_hierarchy.proofs.Places.{get_replicate, same_or_not}
 use Rattle.net_least.specs.Recursion.{AreFree, Closes, ClosesAt, Ends, IsFree, IsMarked, RowCloses, module_in, module_of}
 
 pub marked_set : (marks : List Bool) (k j : ℕ) → IsMarked (set marks k true) j → (j ≡ k) ⊎ IsMarked marks j
-marked_set marks k j mark = elim (same_or_not j k) [ inl same ↦ inl same | inr other ↦ inr (sym (get_set_other marks k j true other) ∙ mark) ]
+marked_set marks k j mark = elim (same_or_not j k) [ inl same ↦ inl same | inr other ↦ inr (sym (slice_get-set_other marks k j true other) ∙ mark) ]
 
 pub marked_new : (marks : List Bool) (k : ℕ) → k < length marks → IsMarked (set marks k true) k
 marked_new marks k within =
@@ -23,7 +24,7 @@ pub marked_old : (marks : List Bool) (k j : ℕ) → IsMarked marks j → IsMark
 marked_old marks k j mark =
     elim (same_or_not j k) [
       | inl same ↦ subst (IsMarked (set marks k true)) (sym same) (marked_new marks k (subst (λ n. n < length marks) same (slice_get_within marks j true mark)))
-      | inr other ↦ get_set_other marks k j true other ∙ mark
+      | inr other ↦ slice_get-set_other marks k j true other ∙ mark
     ]
 
 pub none_marked : (n j : ℕ) → IsMarked (replicate n false) j → ⊥

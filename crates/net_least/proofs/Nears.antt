@@ -5,7 +5,8 @@ use Rattle.std.proofs.lemmas.List.{length-set}
 use Rattle.std.proofs.lemmas.Option.{slice_get-get_or}
 use Rattle.list_defs.specs.Members.{IsIn}
 use Rattle.list_defs.proofs.Members.{IsIn-append_cases}
-use Rattle.net_hierarchy.proofs.Places.{get_set_other, same_or_not}
+use Rattle.list_defs.proofs.Longer.{slice_get-set_other}
+use Rattle.net_hierarchy.proofs.Places.{same_or_not}
 use Rattle.list_defs.proofs.Longer.{slice_get_last}
 use Rattle.pw_defs.specs.declared.design.Body.TheVariants.{Module as ModuleBody}
 use Rattle.pw_defs.specs.declared.netlist.Inst.{Inst}
@@ -123,7 +124,7 @@ all_near_more s own symbols links more nears done n near known within here = rec
               subst (λ j. IsNear symbols (links ++ more) (IsWayTo s own j) (near_at (set nears n near) j)) (sym same)
               (subst (λ o. IsNear symbols (links ++ more) (IsWayTo s own n) (or_none o)) (sym there) here)
           | inr other ↦
-              subst (λ o. IsNear symbols (links ++ more) (IsWayTo s own k) (or_none o)) (sym (get_set_other nears n k near other))
+              subst (λ o. IsNear symbols (links ++ more) (IsWayTo s own k) (or_none o)) (sym (slice_get-set_other nears n k near other))
               (near_grows symbols links more (IsWayTo s own k) (near_at nears k) (known.each k (old other (IsIn-append_cases k done (n ∷ []) one))))
         ]
       where

@@ -15,7 +15,7 @@ use Rattle.std.proofs.lemmas.Option.{slice_get-get_or, slice_get-map}
 use Rattle.pw_defs.specs.declared.design.Body.{Body}
 use Rattle.pw_defs.specs.declared.netlist.Port.{Port}
 use Rattle.list_defs.specs.Members.{IsIn}
-use Rattle.list_defs.specs.Orders.{AreAllRising, IsRising, name_cmp}
+use Rattle.list_defs.specs.Orders.{IsRising, name_cmp}
 use Rattle.list_defs.proofs.Members.{IsIn-flat_map, IsIn-flat_map_from, IsIn-map, IsIn-map_from}
 use Rattle.list_defs.proofs.Longer.{slice_get-append}
 use Rattle.list_defs.proofs.Rising.{IsRising-append, each_in, not_before_itself}

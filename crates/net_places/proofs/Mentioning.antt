@@ -18,7 +18,7 @@ use Rattle.net_places.specs.declared.rows.NetRow.{NetRow}
 use Rattle.net_places.specs.declared.gathering.Gathering.{Gathering}
 use Rattle.net_places.specs.Nets.{OwnNet}
 use Rattle.net_places.specs.Mentions.{Mention, is_mentioned, net_mentioned}
-use Rattle.net_places.specs.Gathered.{AreGathered, Gathers, HasGathered, IsSpelled, is_named, mention_by, net_by, net_of, no_net}
+use Rattle.net_places.specs.Gathered.{AreGathered, Gathers, HasGathered, IsSpelled, is_named, mention_by, net_of, no_net}
 
 true_eqb : (n : ℕ) → (n == n) ≡ true
 true_eqb n = by (n == n) refl

@@ -1,5 +1,5 @@
 -- What the lines of a module mention are its nets.
-use Rattle.std.proofs.Common.{◌≡◌, ℕ, zero, suc, ◌+◌, Bool, true, false, cond, not, ◌&&◌, ◌||◌, List, [], ◌∷◌, ◌++◌, map, refl, sym, ap, ◌∙◌, subst, arith, append_assoc}
+use Rattle.std.proofs.Common.{◌≡◌, ℕ, suc, ◌+◌, Bool, true, false, cond, not, ◌&&◌, ◌||◌, List, [], ◌∷◌, ◌++◌, map, refl, sym, ap, ◌∙◌, arith, append_assoc}
 use Rattle.std.specs.Prelude.{Option, Some, None, is_some, option_map}
 use Rattle.std.specs.Option.{option_or, option_to_list}
 use Rattle.std.specs.List.{find, flat_map, list_any}
@@ -15,10 +15,10 @@ use Rattle.pw_defs.specs.declared.netlist.Port.{Port}
 use Rattle.list_defs.specs.Members.{place_of, same_name}
 use Rattle.list_defs.proofs.NameLemmas.{same_name-equal}
 use Rattle.list_defs.proofs.Rising.{found_in}
-use Rattle.design_defs.specs.Hierarchy.{inst_named, number_named}
-use Rattle.design_defs.specs.Places.{declared_range, exprs_in, is_implicit, is_instance_name, names_alone, net_range}
+use Rattle.design_defs.specs.Hierarchy.{inst_named}
+use Rattle.design_defs.specs.Places.{exprs_in, is_instance_name, names_alone, net_range}
 use Rattle.net_places.specs.Nets.{OwnNet, net_among, net_in}
-use Rattle.net_places.specs.Mentions.{Mention, is_mentioned, net_mentioned, of_assign, of_conn, of_conns, of_expr, of_exprs, of_inst, of_module, of_port, of_ports, of_use, of_wire}
+use Rattle.net_places.specs.Mentions.{Mention, is_mentioned, net_mentioned, of_assign, of_conns, of_expr, of_exprs, of_inst, of_module, of_port, of_ports, of_use, of_wire}
 use Rattle.net_places.proofs.Mentioning.{any_if_found, fresh, kept, net_found, none_if_not_found, says}
 
 -- a port of a name with its number

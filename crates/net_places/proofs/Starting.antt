@@ -1,12 +1,11 @@
 -- Gatherings at their start and at their end.
-use Rattle.std.proofs.Common.{◌≡◌, ℕ, ◌+◌, ◌<◌, ◌≤◌, ◌==◌, Bool, true, false, zero, suc, List, [], ◌∷◌, length, get_or, map, replicate, refl, sym, ap, ◌∙◌, subst, arith}
-use Rattle.std.specs.Prelude.{None, slice_index}
-use Rattle.std.specs.List.{All}
+use Rattle.std.proofs.Common.{◌≡◌, ℕ, ◌+◌, ◌<◌, ◌≤◌, ◌==◌, Bool, true, false, zero, suc, List, [], length, replicate, refl, sym, ap, ◌∙◌, subst, arith}
+use Rattle.std.specs.Prelude.{slice_index}
 use Rattle.std.proofs.lemmas.Bool.{eqb-true}
 use Rattle.list_defs.specs.Members.{all_differ, same_name}
 use Rattle.net_places.specs.declared.rows.NamedRow.{NamedRow}
 use Rattle.net_places.specs.declared.gathering.Gathering.{Gathering}
-use Rattle.net_places.specs.Gathered.{AreGathered, HasGathered, IsReady, IsSpelled, net_of}
+use Rattle.net_places.specs.Gathered.{AreGathered, HasGathered, IsReady}
 
 -- nothing is gathered
 pub gathered_nothing : (names : List (List ℕ)) → AreGathered names [] []

@@ -1,12 +1,11 @@
 -- The lines of a module one after the other.
-use Rattle.std.proofs.Common.{◌≡◌, ℕ, zero, suc, ◌+◌, ◌-◌, ◌<◌, ◌≤◌, List, [], ◌∷◌, ◌++◌, length, get_or, map, take, drop, refl, sym, ap, ◌∙◌, subst, arith, append-nil}
-use Rattle.std.specs.Prelude.{IfSome, Option, Some, None, slice_get}
+use Rattle.std.proofs.Common.{◌≡◌, ℕ, ◌+◌, ◌-◌, ◌<◌, ◌≤◌, List, [], ◌∷◌, ◌++◌, length, get_or, map, take, drop, sym, ap, ◌∙◌, arith, append-nil}
+use Rattle.std.specs.Prelude.{IfSome, Option, Some, None}
 use Rattle.std.specs.Option.{option_to_list}
 use Rattle.std.specs.List.{flat_map, slice_range}
 use Rattle.std.proofs.lemmas.Grind.{flat_map-append}
 use Rattle.std.proofs.lemmas.List.{get_or-drop, length-drop, length-take, map_push, take_more}
 use Rattle.std.proofs.lemmas.Option.{get_or_from_slice_get, slice_get_within}
-use Rattle.pw_defs.specs.declared.netlist.Conn.{Conn}
 use Rattle.pw_defs.specs.declared.netlist.Expr.{Expr}
 use Rattle.pw_defs.specs.declared.netlist.Expr.TheVariants.{Whole as WholeExpr, Bit as BitExpr, Part as PartExpr, Const as ConstExpr, Join as JoinExpr}
 use Rattle.pw_defs.specs.declared.netlist.Inst.{Inst}
@@ -18,11 +17,11 @@ use Rattle.module_rows.specs.declared.heads.InstHead.{InstHead}
 use Rattle.module_rows.specs.declared.plain.Netlist.{Netlist}
 use Rattle.module_rows.specs.declared.tables.NetRow.{NetRow as WireRow}
 use Rattle.module_rows.specs.declared.tables.PortRow.{PortRow}
-use Rattle.module_rows.specs.Leaves.{leaves, own_leaf}
-use Rattle.module_rows.specs.Reads.{IsExprHead, IsInst, IsNet, IsNumbered, IsPort, HasLeavesFrom, no_inst, no_net, no_port, numbered_expr}
+use Rattle.module_rows.specs.Leaves.{own_leaf}
+use Rattle.module_rows.specs.Reads.{IsInst, IsNet, IsNumbered, IsPort, HasLeavesFrom, no_inst, no_net, no_port, numbered_expr}
 use Rattle.module_rows.specs.View.{name_at}
 use Rattle.module_rows.proofs.LeafLemmas.{own_bit, own_const, own_join, own_part, own_whole}
-use Rattle.net_places.specs.Mentions.{Mention, of_conn, of_expr, of_inst, of_leaf, of_port, of_ports, of_use, of_wire}
+use Rattle.net_places.specs.Mentions.{of_expr, of_inst, of_leaf, of_port, of_ports, of_use, of_wire}
 use Rattle.net_places.specs.Gathered.{mention_by, no_net as no_net_of}
 use Rattle.net_places.proofs.LeafParts.{by_leaves}
 use Rattle.net_places.proofs.Owning.{flat_flat, map_flat}

@@ -11,7 +11,7 @@ use Rattle.pw_defs.specs.declared.design.Body.TheVariants.{Module as ModuleBody,
 use Rattle.pw_defs.specs.declared.model.Model.{Model}
 use Rattle.pw_defs.specs.declared.netlist.Module.{Module}
 use Rattle.pw_defs.specs.declared.netlist.Port.{Port}
-use Rattle.design_defs.specs.Bits.{port_named, range_in}
+use Rattle.design_defs.specs.Bits.{port_named}
 use Rattle.design_defs.specs.Hierarchy.{Sources, number_named, ports_in}
 use Rattle.design_defs.specs.Places.{net_range}
 use Rattle.design_defs.specs.Ports.{port_of_pin}

@@ -1,5 +1,5 @@
 -- Nets that are gathered, name by name.
-use Rattle.std.specs.Prelude.{◌≡◌, ℕ, ◌==◌, ◌<◌, ◌≤◌, Bool, true, List, [], ◌∷◌, ◌++◌, Option, Some, None, length, map, slice_index, slice_get}
+use Rattle.std.specs.Prelude.{◌≡◌, ℕ, ◌==◌, ◌<◌, ◌≤◌, Bool, true, List, ◌++◌, Some, None, length, map, slice_index, slice_get}
 use Rattle.std.specs.List.{All, count_by, list_any}
 use Rattle.list_defs.specs.Members.{IsIn, all_differ, same_name}
 use Rattle.module_rows.specs.View.{name_at}

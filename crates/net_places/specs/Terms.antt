@@ -1,5 +1,5 @@
 -- What an expression names is what its names and constants do, from the left.
-use Rattle.std.specs.Prelude.{◌≡◌, ℕ, List}
+use Rattle.std.specs.Prelude.{◌≡◌}
 use Rattle.std.specs.List.{flat_map}
 use Rattle.pw_defs.specs.declared.netlist.Expr.{Expr}
 use Rattle.pw_defs.specs.declared.netlist.Module.{Module}

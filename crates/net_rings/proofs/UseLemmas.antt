@@ -7,6 +7,7 @@ use Rattle.std.proofs.lemmas.Option.{get_or_from_slice_get, same_Some, slice_get
 use Rattle.std.proofs.lemmas.Bool.{cases_eq, cases_lt, false≢true}
 use Rattle.std.proofs.lemmas.List.Sums.{sum_by-cons, sum_by-set}
 use Rattle.list_defs.specs.Members.{IsIn}
+use Rattle.list_defs.proofs.Longer.{slice_get-set_other, slice_get-set_same}
 use Rattle.list_defs.proofs.Members.{IsIn-append_cases, IsIn-append_left, IsIn-append_right}
 use Rattle.net_rings.specs.Fed.{AreRows, AreThere, IsFedBy, IsRow, IsThere, sources_at, sources_of}
 use Rattle.net_rings.specs.Peeled.{AreCounted, IsCore, IsGone, IsWithout, uses_in, uses_of}
@@ -52,19 +53,6 @@ used r fed n feeds (row, is, there) =
     let part = part_of_sum (uses_in r.sources.items n) r.bits.items fed row is in
     let whole : uses_in r.sources.items n row ≡ count_by (nat_eq n) (sources_at r.sources.items row) = ap (λ b. cond b (count_by (nat_eq n) (sources_at r.sources.items row)) 0) there in
     omega (arith, many, part, whole)
-
--- what is set at a place of a list is there, and the others are as they were
-slice_get-set_same : {X : Type 0} (xs : List X) (i : ℕ) (y : X) → i < length xs → slice_get (set xs i y) i ≡ Some y
-slice_get-set_same [] i y within = absurd (omega arith)
-slice_get-set_same (x ∷ xs) zero y within = refl
-slice_get-set_same (x ∷ xs) (suc i) y within = slice_get-set_same xs i y (omega arith)
-
-slice_get-set_other : {X : Type 0} (xs : List X) (i j : ℕ) (y : X) → j ≢ i → slice_get (set xs i y) j ≡ slice_get xs j
-slice_get-set_other [] i j y other = refl
-slice_get-set_other (x ∷ xs) zero zero y other = absurd (other refl)
-slice_get-set_other (x ∷ xs) zero (suc j) y other = refl
-slice_get-set_other (x ∷ xs) (suc i) zero y other = refl
-slice_get-set_other (x ∷ xs) (suc i) (suc j) y other = slice_get-set_other xs i j y (λ same. other (ap suc same))
 
 -- the row of a bit that is taken away
 abbrev taken_row : BitRow → BitRow

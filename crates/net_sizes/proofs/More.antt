@@ -9,12 +9,11 @@ use Rattle.pw_defs.specs.declared.design.Body.{Body}
 use Rattle.pw_defs.specs.declared.design.Body.TheVariants.{Module as ModuleBody}
 use Rattle.design_defs.specs.Bits.{IsSpot, Spot, range_in}
 use Rattle.list_defs.specs.Members.{HasMoreThan}
-use Rattle.design_defs.specs.Hierarchy.{IsInstance, Sources, Way, body_at, body_inside, module_named}
+use Rattle.design_defs.specs.Hierarchy.{IsInstance, Sources, Way, body_at, module_named}
 use Rattle.list_defs.proofs.Few.{few, place_of_member}
 use Rattle.list_defs.proofs.Members.{IsIn-slice_get}
 use Rattle.net_sizes.specs.Sizes.{AreOwnSpots, IsSized, one_each}
 use Rattle.net_sizes.specs.Under.{AllDiffer, IsUnder, Own}
-use Rattle.net_hierarchy.specs.Below.{body_below}
 use Rattle.net_sizes.proofs.AllUnder.{spot_of_parts}
 use Rattle.net_hierarchy.proofs.Below.{at_below}
 use Rattle.net_hierarchy.proofs.Cycles.{get_take}

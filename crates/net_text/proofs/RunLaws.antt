@@ -1,9 +1,8 @@
 -- Numbers with many digits.
-use Rattle.std.proofs.Common.{◌≡◌, ℕ, ◌+◌, ◌*◌, ◌<◌, ◌≤◌, min, Bool, true, false, ◌&&◌, ◌==◌, List, [], ◌∷◌, Option, Some, None, length, drop, get_or, refl, sym, ap, ◌∙◌, arith}
-use Rattle.std.proofs.lemmas.List.{drop_more, drop_all}
+use Rattle.std.proofs.Common.{◌≡◌, ℕ, ◌+◌, ◌*◌, ◌<◌, min, List, [], ◌∷◌, length, drop, get_or, sym, ap, ◌∙◌, arith}
+use Rattle.std.proofs.lemmas.List.{drop_more}
 use Rattle.std.specs.Char.{digit_value}
 use Rattle.std.specs.Str.Parse.{digits_value_after}
-use Rattle.text_defs.specs.Pieces.{begins_with, closed_by}
 
 -- a number stays cut at a limit, wherever it was cut before
 after_cut : (n : ℕ) (digits : List ℕ) → min (digits_value_after 10 (min n 100000) digits) 100000 ≡ min (digits_value_after 10 n digits) 100000

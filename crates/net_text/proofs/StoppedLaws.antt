@@ -1,6 +1,5 @@
 -- What a reader of a whole text tells, by what was read of its tokens.
-use Rattle.std.proofs.Common.{◌≡◌, ◌≢◌, List, [], ◌∷◌, Option, Some, None, Result, Ok, Err, refl, sym, ap, subst, ◌∙◌}
-use Rattle.pw_defs.specs.declared.faults.At.{At}
+use Rattle.std.proofs.Common.{◌≡◌, ◌≢◌, List, [], ◌∷◌, Option, Some, Ok, Err, refl, sym, ap, subst, ◌∙◌}
 use Rattle.pw_defs.specs.declared.faults.NetFault.{NetFault}
 use Rattle.pw_defs.specs.declared.faults.NetFault.TheVariants.{N1, N2, N3, N4, Memory}
 use Rattle.std.specs.Prelude.{ℕ}

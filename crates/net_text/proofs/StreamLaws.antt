@@ -1,12 +1,10 @@
 -- A step over a piece of a text.
-use Rattle.std.proofs.Common.{◌≡◌, ℕ, zero, suc, ◌+◌, ◌-◌, ◌<◌, ◌≤◌, ◌==◌, min, max, Bool, true, ◌&&◌, ◌||◌, cond, List, [], ◌∷◌, ◌++◌, Option, Some, None, length, filter, take, drop, get_or, false, not, if◌then◌else◌, refl, sym, ap, subst, ◌∙◌, arith}
-use Rattle.std.proofs.Math.Seq.{take-add, take-length}
-use Rattle.std.proofs.lemmas.List.{length-append, length-drop, drop_all, drop_more, drop-drop}
-use Rattle.std.proofs.lemmas.List.Elements.{filter-append}
+use Rattle.std.proofs.Common.{◌≡◌, ℕ, ◌+◌, ◌-◌, ◌<◌, ◌≤◌, ◌==◌, min, max, Bool, true, ◌&&◌, cond, List, [], ◌∷◌, ◌++◌, Option, Some, None, length, take, drop, false, not, if◌then◌else◌, refl, sym, ap, subst, ◌∙◌, arith}
+use Rattle.std.proofs.lemmas.List.{length-drop, drop_all, drop-drop}
 use Rattle.std.specs.List.{flat_map, take_while}
-use Rattle.text_defs.specs.Lines.{newlines, line_at, last_line}
+use Rattle.text_defs.specs.Lines.{line_at, last_line}
 use Rattle.std.specs.Char.{is_ascii_digit}
-use Rattle.text_defs.specs.Pieces.{Piece, Placed, is_white, is_blank, begins_with, pieces_from}
+use Rattle.text_defs.specs.Pieces.{Piece, is_white, begins_with, pieces_from}
 use Rattle.text_defs.specs.Tokens.{Token}
 use Rattle.net_text.specs.NetlistTokens.{NetlistPiece, NetlistClass, netlist_piece, token_of, skipped_piece, escaped_piece, number_piece, is_width, is_graphic, digits_at, based, begins_name}
 use Rattle.text_streams.specs.Places.{fresh_after}

@@ -3,7 +3,7 @@ use Rattle.std.proofs.Common.{◌≡◌, ℕ, zero, suc, ◌+◌, ◌≤◌, ◌
 use Rattle.std.specs.List.{AllByRecursion, flat_map, range_with_len, list_all}
 use Rattle.std.specs.Ordering.{ordering_then, ordering_reverse}
 use Rattle.std.specs.declared.cmp.Ordering.{Ordering}
-use Rattle.std.specs.declared.cmp.Ordering.TheVariants.{Less, Equal, Greater}
+use Rattle.std.specs.declared.cmp.Ordering.TheVariants.{Less}
 use Rattle.std.proofs.lemmas.Bool.{cases_order, and_parts, and_from, ltb-true, lt-ltb, false≢true}
 use Rattle.std.proofs.lemmas.Cmp.{tied_itself}
 use Rattle.std.proofs.lemmas.List.{ext_get_or, length-map, map-append}
@@ -15,10 +15,10 @@ use Rattle.pw_defs.specs.declared.values.Value.TheVariants.{Off}
 use Rattle.pw_defs.specs.declared.conditions.Cond.{Cond}
 use Rattle.pw_defs.specs.declared.conditions.Cond.TheVariants.{All}
 use Rattle.list_defs.specs.Members.{IsIn}
-use Rattle.list_defs.specs.Orders.{IsRising, IsLeast}
+use Rattle.list_defs.specs.Orders.{IsRising}
 use Rattle.list_defs.proofs.Members.{IsIn-map, IsIn-map_from, IsIn-flat_map, IsIn-flat_map_from, IsIn-filter, IsIn-filter_from}
 use Rattle.supply_defs.specs.Conditions.{holds}
-use Rattle.supply_defs.specs.States.{value_in, all_states, meets, legal_states}
+use Rattle.supply_defs.specs.States.{value_in, all_states, meets}
 use Rattle.supply_defs.proofs.Meaning.{holds_all}
 use Rattle.supply_defs.proofs.TotalOrders.{value_cmp_total}
 use Rattle.diagram_defs.specs.Rests.{is_rest, all_rests}

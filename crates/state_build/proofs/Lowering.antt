@@ -1,15 +1,14 @@
 -- Sets of whole states from a level on, and what operations make of them.
-use Rattle.std.proofs.Common.{◌≡◌, ℕ, ◌-◌, Bool, true, false, not, ◌&&◌, ◌||◌, List, drop, refl, sym, ap, ◌∙◌, arith, Result, Ok, Err, IfOk}
+use Rattle.std.proofs.Common.{◌≡◌, ℕ, ◌-◌, Bool, true, false, not, ◌&&◌, List, drop, refl, ap, ◌∙◌, arith, Result, Ok, Err, IfOk}
 use Rattle.std.proofs.lemmas.Bool.{and_parts}
 use Rattle.plain_lists.specs.declared.faults.DiagFault.{DiagFault}
 use Rattle.diagram_defs.specs.Rests.{is_rest}
 use Rattle.diagram_defs.specs.declared.locals.Local.{Local}
 use Rattle.diagram_defs.specs.Diagrams.{Diagram, member, IsPool, AreRests}
-use Rattle.diagram_defs.specs.Locals.{IsLocalFor, states_from}
-use Rattle.diagram_defs.specs.Sets.{and_set, or_set, complement_set, widened_set}
+use Rattle.diagram_defs.specs.Locals.{IsLocalFor}
+use Rattle.diagram_defs.specs.Sets.{complement_set, widened_set}
 use Rattle.diagram_defs.proofs.Listed.{is_rest-drop}
 use Rattle.diagram_defs.proofs.LocalSets.{local_same}
-use Rattle.diagram_defs.proofs.Steps.{AreRests_number}
 
 -- an answer for a set that has the same states
 pub same_local : (d : Diagram) (set other : List ℕ → Bool) → ((state : List ℕ) → set state ≡ other state) → (r : Result Local DiagFault) → IfOk r (λ local. IsLocalFor d set local) → IfOk r (λ local. IsLocalFor d other local)

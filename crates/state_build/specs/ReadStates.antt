@@ -1,9 +1,8 @@
 -- States of indices, read as values.
-use Rattle.std.specs.Prelude.{◌≡◌, ℕ, Bool, true, List, [], ◌∷◌, map, length, slice_index_or}
+use Rattle.std.specs.Prelude.{◌≡◌, ℕ, true, List, [], ◌∷◌, map, slice_index_or}
 use Rattle.pw_defs.specs.declared.values.Value.{Value}
 use Rattle.pw_defs.specs.declared.values.Value.TheVariants.{Off}
 use Rattle.pw_defs.specs.declared.conditions.Cond.{Cond}
-use Rattle.pw_defs.specs.declared.conditions.Cond.TheVariants.{All}
 use Rattle.pw_defs.specs.Values.{state_cmp as values_cmp}
 use Rattle.list_defs.specs.Members.{IsIn}
 use Rattle.list_defs.specs.Orders.{IsLeast}

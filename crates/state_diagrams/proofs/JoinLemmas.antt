@@ -1,5 +1,5 @@
 -- Joins of sets, level by level.
-use Rattle.std.proofs.Common.{◌≡◌, ◌≢◌, ℕ, ◌+◌, ◌≤◌, ◌<◌, Bool, true, false, not, ◌&&◌, ◌||◌, nat_eq, ◌⊎◌, List, [], ◌∷◌, max, Option, Some, None, MatchOption, length, get_or, refl, sym, ap, ◌∙◌, subst, inl, inr, arith, Result, Ok, Err, IfOk, IfErr}
+use Rattle.std.proofs.Common.{◌≡◌, ◌≢◌, ℕ, ◌+◌, ◌≤◌, ◌<◌, Bool, true, false, not, ◌&&◌, ◌||◌, nat_eq, ◌⊎◌, List, [], ◌∷◌, max, Option, Some, None, MatchOption, length, get_or, refl, sym, ap, ◌∙◌, subst, inl, inr, arith, Result}
 use Rattle.std.specs.Option.{IfSome, IfNone}
 use Rattle.std.proofs.lemmas.List.{drop_all}
 use Rattle.plain_lists.specs.declared.faults.DiagFault.{DiagFault}
@@ -15,7 +15,7 @@ use Rattle.diagram_defs.specs.Diagrams.IsKid.{empty, whole, node}
 use Rattle.diagram_defs.specs.Sets.{full_set, complement_set, and_set, or_set}
 use Rattle.std.proofs.Math.Bool.{and-false, and-true, and_self, or-false, or_self}
 use Rattle.diagram_defs.proofs.Guards.{guards}
-use Rattle.diagram_defs.proofs.Meaning.{last_number, member-empty, IsKid-kid, one_level, level_of_one, level_within}
+use Rattle.diagram_defs.proofs.Meaning.{last_number, member-empty, IsKid-kid, one_level, level_of_one}
 use Rattle.diagram_defs.proofs.Growth.{IsSet_grows}
 use Rattle.diagram_defs.proofs.Steps.{member_rest, rest_behind}
 use Rattle.state_diagrams.proofs.Memo.{joined_set_grows}

@@ -1,7 +1,7 @@
 -- Sets that look at one level.
-use Rattle.std.proofs.Common.{◌≡◌, ℕ, zero, suc, ◌+◌, ◌-◌, ◌≤◌, ◌<◌, Bool, true, false, ◌&&◌, ◌==◌, if◌then◌else◌, List, [], ◌∷◌, length, get_or, drop, replicate, refl, sym, ap, ◌∙◌, subst, inl, inr, arith}
+use Rattle.std.proofs.Common.{◌≡◌, ℕ, ◌+◌, ◌-◌, ◌≤◌, ◌<◌, Bool, true, false, ◌&&◌, ◌==◌, if◌then◌else◌, List, [], ◌∷◌, length, get_or, drop, refl, sym, ap, ◌∙◌, subst, inl, inr, arith}
 use Rattle.std.specs.Int.{bit_at}
-use Rattle.std.proofs.lemmas.List.{get_or-replicate, get_or-drop, length-replicate}
+use Rattle.std.proofs.lemmas.List.{get_or-drop}
 use Rattle.std.proofs.lemmas.Bool.{and_parts, cases_lt}
 use Rattle.std.proofs.Math.Bool.{and-false, and-true}
 use Rattle.diagram_defs.proofs.Guards.{guards_second}
@@ -15,7 +15,7 @@ use Rattle.diagram_defs.proofs.Listed.{is_rest-drop}
 use Rattle.diagram_defs.proofs.Meaning.{member-empty}
 use Rattle.diagram_defs.proofs.Growth.{IsNumberFor_same}
 use Rattle.diagram_defs.proofs.PartLemmas.{IsPartOf_same}
-use Rattle.diagram_defs.proofs.Steps.{rest_behind, rest_past, rest_short, value_parts}
+use Rattle.diagram_defs.proofs.Steps.{rest_behind, rest_past, rest_short}
 use Rattle.state_diagrams.specs.Masks.{choice_set, IsPicked, PicksNone}
 
 -- the first value of a rest has its bit

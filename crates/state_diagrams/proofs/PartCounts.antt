@@ -1,8 +1,8 @@
 -- The nodes of a full table and a part that has none are different parts.
-use Rattle.std.proofs.Common.{◌≡◌, ℕ, suc, ◌+◌, ◌≤◌, ◌<◌, Bool, true, false, if◌then◌else◌, nat_lt, List, [], length, get_or, refl, sym, ap, ◌∙◌, subst, arith}
+use Rattle.std.proofs.Common.{◌≡◌, ℕ, ◌+◌, ◌<◌, Bool, true, false, if◌then◌else◌, nat_lt, List, [], length, get_or, refl, sym, ◌∙◌, subst, arith}
 use Rattle.std.proofs.lemmas.Bool.{ltb-true, ltb-false}
 use Rattle.std.proofs.lemmas.Option.{slice_get-get_or}
-use Rattle.diagram_defs.specs.Diagrams.{Diagram, Shape, member, IsPool, IsSet}
+use Rattle.diagram_defs.specs.Diagrams.{Diagram, member, IsPool, IsSet}
 use Rattle.diagram_defs.specs.Diagrams.IsKid.{node}
 use Rattle.diagram_defs.specs.Answers.{IsFullWithout}
 use Rattle.state_diagrams.specs.Counts.{IsPartOfAny, AreParts, HasParts}

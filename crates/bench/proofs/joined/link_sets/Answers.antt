@@ -1,6 +1,5 @@
-use Rattle.std.proofs.Common.{List, sym, ◌∙◌, subst}
+use Rattle.std.proofs.Common.{sym, ◌∙◌, subst}
 use Rattle.std.proofs.lemmas.List.Elements.{All-push, All-weaker}
-use Rattle.diagram_defs.specs.declared.locals.Local.{Local}
 use Rattle.diagram_defs.specs.Locals.{IsLocal, AreLocals}
 use Rattle.diagram_defs.proofs.LocalSets.{IsLocal_grows}
 use Rattle.bench.proofs.joined.link_sets.Goals as goal

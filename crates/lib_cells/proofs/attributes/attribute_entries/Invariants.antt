@@ -1,11 +1,9 @@
-use Rattle.std.proofs.Common.{◌≡◌, ◌≤◌, ◌-◌, ◌++◌, length, map}
+use Rattle.std.proofs.Common.{◌≡◌, ◌≤◌, ◌-◌, length}
 use Rattle.text_defs.specs.Grammar.{read}
 use Rattle.text_defs.specs.Phrases.{many}
 use Rattle.text_defs.specs.Tokens.{of_class}
 use Rattle.lib_cells.specs.Kept.{seen}
-use Rattle.std.proofs.Common.{◌∷◌, []}
 use Rattle.lib_cells.specs.Groups.{entry, is_word, present}
-use Rattle.lib_cells.specs.Kept.{attribute_entry}
 use Rattle.lib_cells.specs.Marks.{marks_of, overlaid}
 use Rattle.lib_cells.proofs.attributes.attribute_entries.Given as goal
 

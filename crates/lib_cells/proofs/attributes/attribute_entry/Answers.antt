@@ -1,4 +1,4 @@
-use Rattle.std.proofs.Common.{◌≡◌, [], ◌∷◌, Some, None, sym, ap, ◌∙◌}
+use Rattle.std.proofs.Common.{Some, None, sym, ap, ◌∙◌}
 use Rattle.lib_cells.specs.Groups.{Attribute, arguments}
 use Rattle.lib_cells.specs.Kept.{behind_entry}
 use Rattle.lib_cells.specs.Marks.{mark_of}

@@ -1,14 +1,13 @@
-use Rattle.std.proofs.Common.{◌≡◌, ◌≤◌, ◌+◌, ◌-◌, ◌++◌, suc, sym, ap, ◌∙◌, List, length, map, refl, arith, Ok}
+use Rattle.std.proofs.Common.{◌≡◌, ◌+◌, ◌-◌, suc, sym, ap, ◌∙◌, map, arith, Ok}
 use Rattle.std.proofs.lemmas.Result.{err_from_is_err_and}
 use Rattle.text_defs.specs.Grammar.{read}
 use Rattle.text_defs.specs.Phrases.{many}
 use Rattle.text_defs.specs.Tokens.{of_class}
-use Rattle.std.proofs.Common.{◌∷◌, []}
 use Rattle.lib_cells.specs.Groups.{cell_entry, is_word, present}
 use Rattle.lib_cells.specs.CellViews.{draft_view, entry_view, part_said, pins_view}
 use Rattle.lib_cells.specs.Marks.{CellSaid, cell_said, said_then}
 use Rattle.lib_cells.proofs.CellLaws.{nothing_said_then, said_more_parts, said_nothing_more}
-use Rattle.lib_cells.proofs.KeptLaws.{entry_reads, failed, row_end, row_fault, row_on, seen_alike, shown, stopped_as}
+use Rattle.lib_cells.proofs.KeptLaws.{failed, row_end, row_fault, row_on, seen_alike, shown, stopped_as}
 use Rattle.lib_cells.proofs.cells.cell_entries.Goals as goal
 
 pub returns-in_err-entry-clause-answers : goal.returns-in_err-entry-clause-answers

@@ -1,11 +1,10 @@
-use Rattle.std.proofs.Common.{◌≡◌, ◌≤◌, ◌-◌, ◌++◌, length, map}
+use Rattle.std.proofs.Common.{◌≡◌, ◌≤◌, ◌-◌, length}
 use Rattle.text_defs.specs.Grammar.{read}
 use Rattle.text_defs.specs.Phrases.{many}
 use Rattle.text_defs.specs.Tokens.{of_class}
 use Rattle.lib_cells.specs.Kept.{seen}
-use Rattle.std.proofs.Common.{◌∷◌, []}
 use Rattle.lib_cells.specs.Groups.{cell_entry, is_word, present}
-use Rattle.lib_cells.specs.CellViews.{draft_view, entry_view, part_said}
+use Rattle.lib_cells.specs.CellViews.{draft_view}
 use Rattle.lib_cells.specs.Marks.{cell_said, said_then}
 use Rattle.lib_cells.proofs.cells.cell_entries.Given as goal
 

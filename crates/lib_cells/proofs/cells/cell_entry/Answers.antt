@@ -1,7 +1,7 @@
-use Rattle.std.proofs.Common.{◌≡◌, [], ◌∷◌, Option, Some, None, sym, ap, ◌∙◌, refl}
+use Rattle.std.proofs.Common.{[], ◌∷◌, Some, sym, ap, ◌∙◌}
 use Rattle.std.specs.Option.{option_map}
 use Rattle.lib_cells.specs.CellViews.{pins_view}
-use Rattle.lib_cells.specs.Groups.{Attribute, CellPart, Says, cell_behind, present}
+use Rattle.lib_cells.specs.Groups.{Attribute, Says, cell_behind, present}
 use Rattle.lib_cells.specs.Marks.{CellSaid, mark_of}
 use Rattle.lib_cells.specs.Streams.{word_view}
 use Rattle.lib_cells.specs.declared.marks.Marks.{Marks}

@@ -1,4 +1,4 @@
-use Rattle.std.proofs.Common.{◌≡◌, None, sym, refl, ◌∙◌}
+use Rattle.std.proofs.Common.{None, sym, refl, ◌∙◌}
 use Rattle.std.specs.Option.{option_map}
 use Rattle.lib_cells.specs.Groups.{Attribute, entry}
 use Rattle.lib_cells.specs.Streams.{word_view}

@@ -1,6 +1,6 @@
-use Rattle.std.proofs.Common.{◌≡◌, List, ℕ, Option, Some, None, sym, refl, ap, ◌∙◌}
+use Rattle.std.proofs.Common.{Some, None, sym, refl, ap, ◌∙◌}
 use Rattle.std.specs.Option.{option_map}
-use Rattle.lib_cells.specs.Groups.{CellGroup, present}
+use Rattle.lib_cells.specs.Groups.{present}
 use Rattle.lib_cells.specs.declared.libraries.PlacedCell.{PlacedCell}
 use Rattle.lib_cells.proofs.ReadLaws.{group_named, group_unnamed, group_without}
 use Rattle.lib_cells.proofs.libraries.cell_group.Goals as goal

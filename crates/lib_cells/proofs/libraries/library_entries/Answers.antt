@@ -1,4 +1,4 @@
-use Rattle.std.proofs.Common.{◌≡◌, ◌≤◌, ◌+◌, ◌-◌, ◌++◌, suc, sym, ap, ◌∙◌, List, length, map, refl, arith, Ok}
+use Rattle.std.proofs.Common.{◌≡◌, ◌+◌, ◌-◌, ◌++◌, suc, sym, ap, ◌∙◌, map, arith, Ok}
 use Rattle.std.proofs.lemmas.Result.{err_from_is_err_and}
 use Rattle.text_defs.specs.Grammar.{read}
 use Rattle.text_defs.specs.Phrases.{many}
@@ -8,7 +8,7 @@ use Rattle.lib_cells.specs.Groups.{is_word, library_entry, present}
 use Rattle.lib_cells.specs.CellViews.{placed_of}
 use Rattle.std.proofs.lemmas.List.{append-nil}
 use Rattle.lib_cells.proofs.CellLaws.{placed_more}
-use Rattle.lib_cells.proofs.KeptLaws.{entry_reads, failed, row_end, row_fault, row_on, seen_alike, shown, stopped_as}
+use Rattle.lib_cells.proofs.KeptLaws.{failed, row_end, row_fault, row_on, seen_alike, shown, stopped_as}
 use Rattle.lib_cells.proofs.libraries.library_entries.Goals as goal
 
 pub returns-in_err-cell-clause-answers : goal.returns-in_err-cell-clause-answers

@@ -3,7 +3,6 @@ use Rattle.text_defs.specs.Grammar.{read}
 use Rattle.text_defs.specs.Phrases.{many}
 use Rattle.text_defs.specs.Tokens.{of_class}
 use Rattle.lib_cells.specs.Kept.{seen}
-use Rattle.std.specs.Option.{option_map}
 use Rattle.lib_cells.specs.Groups.{is_word, library_entry, present}
 use Rattle.lib_cells.specs.CellViews.{placed_of}
 use Rattle.lib_cells.proofs.libraries.library_entries.Given as goal

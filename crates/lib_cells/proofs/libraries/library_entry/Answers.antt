@@ -1,4 +1,4 @@
-use Rattle.std.proofs.Common.{◌≡◌, None, sym, refl, ◌∙◌}
+use Rattle.std.proofs.Common.{None, sym, refl, ◌∙◌}
 use Rattle.lib_cells.specs.Groups.{arguments, library_behind}
 use Rattle.lib_cells.specs.Streams.{word_view}
 use Rattle.lib_cells.proofs.ReadLaws.{attribute_reads, other_reads, then_reads, word_by_lone}

@@ -1,4 +1,3 @@
-use Rattle.std.proofs.Common.{◌≡◌, map}
 use Rattle.lib_cells.specs.Groups.{library_entry, present}
 use Rattle.lib_cells.proofs.ReadLaws.{block_reads, library_reads}
 use Rattle.lib_cells.proofs.libraries.library_group.Goals as goal

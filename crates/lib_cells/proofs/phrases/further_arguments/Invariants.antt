@@ -1,7 +1,7 @@
 use Rattle.std.proofs.Common.{◌≡◌, ◌≤◌, ◌-◌, length}
 use Rattle.text_defs.specs.Grammar.{read}
 use Rattle.text_defs.specs.Phrases.{many}
-use Rattle.text_defs.specs.Tokens.{of_class, one_of}
+use Rattle.text_defs.specs.Tokens.{of_class}
 use Rattle.lib_cells.specs.Groups.{further_argument, goes_on}
 use Rattle.lib_cells.specs.Kept.{are_some, seen}
 use Rattle.lib_cells.proofs.KeptLaws.{are_some_behind}

@@ -1,5 +1,4 @@
 use Rattle.std.proofs.Common.{[], unwrap_or}
-use Rattle.lib_cells.specs.Streams.{word_view}
 use Rattle.lib_cells.proofs.ReadLaws.{arguments_read}
 use Rattle.lib_cells.proofs.phrases.only_argument.Goals as goal
 

@@ -1,11 +1,11 @@
-use Rattle.std.proofs.Common.{◌≡◌, ◌≤◌, ◌+◌, ◌-◌, suc, sym, ap, ◌∙◌, length, true, Ok, arith}
+use Rattle.std.proofs.Common.{◌≡◌, ◌+◌, ◌-◌, suc, sym, ap, ◌∙◌, true, Ok, arith}
 use Rattle.std.proofs.lemmas.Result.{err_from_is_err_and}
 use Rattle.text_defs.specs.Grammar.{read}
 use Rattle.text_defs.specs.Phrases.{many}
 use Rattle.text_defs.specs.Tokens.{of_class, one_of}
 use Rattle.lib_cells.specs.Groups.{is_plain_word, most}
 use Rattle.lib_cells.specs.Kept.{are_some}
-use Rattle.lib_cells.specs.Streams.{text_of, word_view}
+use Rattle.lib_cells.specs.Streams.{word_view}
 use Rattle.lib_cells.proofs.KeptLaws.{are_some_behind, failed, row_end, row_fault, row_on, shown, some_more, some_none, stopped_by}
 use Rattle.lib_cells.proofs.phrases.plain_words.Goals as goal
 

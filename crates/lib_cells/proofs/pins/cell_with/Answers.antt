@@ -1,4 +1,4 @@
-use Rattle.std.proofs.Common.{◌≡◌, ◌||◌, ◌&&◌, ℕ, List, Option, false, unwrap_or, is_some, refl, ap, ◌∙◌}
+use Rattle.std.proofs.Common.{◌||◌, ◌&&◌, ℕ, List, Option, false, unwrap_or, is_some, refl, ap, ◌∙◌}
 use Rattle.lib_cells.specs.CellViews.{cell_with, first_of}
 use Rattle.lib_cells.specs.CellsMeant.{places_where, the_only}
 use Rattle.lib_cells.specs.declared.pins.PinRoles.{PinRoles}

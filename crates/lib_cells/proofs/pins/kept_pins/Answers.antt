@@ -1,4 +1,4 @@
-use Rattle.std.proofs.Common.{◌≡◌, ◌<◌, length, map, take, ap, arith}
+use Rattle.std.proofs.Common.{◌<◌, length, map, take, ap, arith}
 use Rattle.std.specs.List.{filter_map}
 use Rattle.std.proofs.lemmas.List.{get_or_read}
 use Rattle.lib_cells.specs.CellViews.{pins_view}

@@ -1,4 +1,3 @@
-use Rattle.std.proofs.Common.{refl}
 use Rattle.lib_cells.specs.declared.pins.PinRoles.{PinRoles}
 use Rattle.lib_cells.proofs.RoleLaws.{only_end}
 use Rattle.lib_cells.proofs.pins.through_pin.Goals as goal

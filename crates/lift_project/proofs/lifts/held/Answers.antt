@@ -3,7 +3,7 @@ use Rattle.diagram_defs.specs.Diagrams.{member, IsSet}
 use Rattle.diagram_defs.specs.Parts.{IsPartOfSome, GrowsBy, IsPartOf}
 use Rattle.diagram_defs.specs.Sets.{and_set, literal_set}
 use Rattle.diagram_defs.proofs.Growth.{IsSet_grows}
-use Rattle.diagram_defs.proofs.PartLemmas.{GrowsBy_none, GrowsBy_step, GrowsBy_wider}
+use Rattle.diagram_defs.proofs.PartLemmas.{GrowsBy_none, GrowsBy_wider}
 use Rattle.lift_project.specs.Entries.{value_set, held_set, IsStep}
 use Rattle.lift_project.specs.Entries.IsStep.{alone, both}
 use Rattle.lift_project.proofs.EntryLemmas.{shifted, literal_value, listed_part, listed_grown, held_meets, held_none}

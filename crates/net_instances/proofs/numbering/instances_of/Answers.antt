@@ -1,4 +1,4 @@
-use Rattle.std.proofs.Common.{◌≡◌, ℕ, List, sym, subst}
+use Rattle.std.proofs.Common.{◌≡◌, ℕ, List, subst}
 use Rattle.net_instances.specs.declared.numbering.Instances.{Instances}
 use Rattle.net_instances.specs.Instances.{AreRowsOf}
 use Rattle.net_instances.proofs.AllInstances.{are_instances}

@@ -1,9 +1,6 @@
-use Rattle.std.proofs.Common.{◌≡◌, ◌+◌, ◌<◌, ℕ, List, [], ◌∷◌, ◌++◌, Some, get_or, sym, ap, ◌∙◌, subst, take}
+use Rattle.std.proofs.Common.{◌≡◌, ◌+◌, ℕ, List, [], ◌∷◌, ◌++◌, Some, get_or, sym, ap, ◌∙◌, subst, take}
 use Rattle.std.specs.List.{sum_by}
-use Rattle.std.specs.Prelude.{IfSome}
 use Rattle.std.proofs.lemmas.List.{take_more}
-use Rattle.std.proofs.lemmas.List.Sums.{sum_by-append}
-use Rattle.net_sizes.specs.Sizes.{count_in}
 use Rattle.net_instances.specs.declared.numbering.InstanceRow.{InstanceRow}
 use Rattle.net_instances.specs.Instances.{AreRowsOf, own_bits, row_in}
 use Rattle.net_instances.proofs.RowsInOrder.{one_row_more, row_is, sum_one, sum_there}

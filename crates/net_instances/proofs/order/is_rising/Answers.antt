@@ -1,11 +1,10 @@
-use Rattle.std.proofs.Common.{◌≡◌, ◌-◌, ◌<◌, ◌≤◌, ℕ, List, get_or, length, map, sym, ap, ◌∙◌, subst, arith, take}
-use Rattle.std.specs.List.{All}
+use Rattle.std.proofs.Common.{◌≡◌, ◌-◌, ◌<◌, ◌≤◌, ℕ, List, get_or, length, map, sym, ◌∙◌, subst, arith}
 use Rattle.std.specs.declared.cmp.Ordering.TheVariants.{Less}
 use Rattle.std.proofs.lemmas.List.{take_all}
 use Rattle.list_defs.specs.Orders.{IsRising}
-use Rattle.design_defs.specs.Hierarchy.{Way, way_cmp}
+use Rattle.design_defs.specs.Hierarchy.{way_cmp}
 use Rattle.design_defs.proofs.BitOrders.{way_total}
-use Rattle.net_instances.specs.Ways.{AreAllNamed, way_in}
+use Rattle.net_instances.specs.Ways.{way_in}
 use Rattle.net_instances.proofs.DownLemmas.{way_is_down}
 use Rattle.net_instances.proofs.RowsInOrder.{rising_start, rising_step}
 use Rattle.net_instances.proofs.order.is_rising.Goals as goal

@@ -1,4 +1,4 @@
-use Rattle.std.proofs.Common.{◌≡◌, ◌+◌, ◌-◌, ◌≤◌, ℕ, List}
+use Rattle.std.proofs.Common.{◌+◌, ◌-◌, ◌≤◌}
 use Rattle.design_defs.specs.Hierarchy.{Way}
 use Rattle.net_instances.specs.Ways.{IsDown}
 use Rattle.net_instances.proofs.TextLemmas.{AreBoth}

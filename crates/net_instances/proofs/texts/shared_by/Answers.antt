@@ -1,4 +1,4 @@
-use Rattle.std.proofs.Common.{◌≡◌, ◌<◌, ◌≤◌, ℕ, sym, subst, arith}
+use Rattle.std.proofs.Common.{◌≡◌, ◌<◌, ◌≤◌, sym, subst, arith}
 use Rattle.net_instances.proofs.DownLemmas.{IsOnWay, on_way_end, one_up, parent_lower, shared_found}
 use Rattle.net_instances.proofs.texts.shared_by.Goals as goal
 

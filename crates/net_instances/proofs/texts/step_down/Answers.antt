@@ -1,6 +1,4 @@
-use Rattle.std.proofs.Common.{◌≡◌, ◌<◌, ◌≤◌, ℕ, List, sym, subst, arith}
-use Rattle.design_defs.specs.Hierarchy.{Way}
-use Rattle.net_instances.specs.declared.tree.TreeRow.{TreeRow}
+use Rattle.std.proofs.Common.{◌≡◌, ◌≤◌, sym, subst, arith}
 use Rattle.net_instances.specs.Trees.{parent_in}
 use Rattle.net_instances.proofs.DownLemmas.{IsOnWay, on_way_end, one_up, parent_lower, step_found}
 use Rattle.net_instances.proofs.texts.step_down.Goals as goal

@@ -1,8 +1,7 @@
 use Rattle.std.proofs.Common.{◌≡◌, ℕ, ◌∷◌, ◌++◌, List, [], map, take, sym, ap, ◌∙◌, subst}
-use Rattle.std.specs.Prelude.{Option, Some, None, option_map, slice_get}
+use Rattle.std.specs.Prelude.{Some, option_map, slice_get}
 use Rattle.std.proofs.lemmas.Option.{slice_get-get_or, slice_get-map}
 use Rattle.pw_defs.specs.declared.netlist.Port.{Port}
-use Rattle.design_defs.specs.Ports.{port_of_pin}
 use Rattle.net_places.specs.declared.rows.NetRow.{NetRow}
 use Rattle.net_places.specs.Gathered.{HasIndexed, mention_of}
 use Rattle.net_places.specs.Mentions.{Mention, of_ports}

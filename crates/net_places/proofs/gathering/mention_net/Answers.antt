@@ -1,4 +1,4 @@
-use Rattle.std.proofs.Common.{◌≡◌, ◌==◌, refl, sym, ◌∙◌}
+use Rattle.std.proofs.Common.{◌==◌, refl, sym, ◌∙◌}
 use Rattle.std.specs.Prelude.{slice_index}
 use Rattle.net_places.specs.declared.rows.NamedRow.{NamedRow}
 use Rattle.net_places.proofs.Mentioning.{net_again, net_first, not_false, not_true}

@@ -1,11 +1,11 @@
-use Rattle.std.proofs.Common.{◌≡◌, refl, sym, ap, ◌∙◌, subst}
+use Rattle.std.proofs.Common.{◌≡◌, refl, subst}
 use Rattle.pw_defs.specs.declared.netlist.Expr.{Expr}
 use Rattle.pw_defs.specs.declared.netlist.Expr.TheVariants.{Const as ConstExpr}
 use Rattle.std.proofs.lemmas.Option.{get_or_from_slice_get, slice_get_within}
 use Rattle.module_rows.specs.Reads.{assign_at, numbered_expr}
 use Rattle.net_places.specs.Gathered.{Gathers}
 use Rattle.net_places.specs.Mentions.{of_expr}
-use Rattle.net_places.proofs.Mentioning.{gathers_also, gathers_none}
+use Rattle.net_places.proofs.Mentioning.{gathers_also}
 use Rattle.net_places.proofs.lines.mention_assign.Goals as goal
 
 pub mention_expr-requires : goal.mention_expr-requires

@@ -1,6 +1,5 @@
-use Rattle.std.proofs.Common.{ℕ, ◌+◌, ◌-◌, ◌<◌, ◌≤◌, ◌≡◌, List, [], take, drop, length, get_or, refl, sym, ap, ◌∙◌, subst, arith}
+use Rattle.std.proofs.Common.{ℕ, ◌+◌, ◌-◌, ◌<◌, ◌≤◌, ◌≡◌, List, length, sym, ap, ◌∙◌, subst, arith}
 use Rattle.std.specs.List.{flat_map, slice_range}
-use Rattle.pw_defs.specs.declared.netlist.Expr.TheVariants.{Const as ConstExpr}
 use Rattle.module_rows.specs.Reads.{numbered_expr}
 use Rattle.net_places.specs.Gathered.{Gathers}
 use Rattle.net_places.specs.Mentions.{Mention, of_expr, of_leaf}

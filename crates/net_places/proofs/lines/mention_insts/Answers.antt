@@ -1,4 +1,4 @@
-use Rattle.std.proofs.Common.{ℕ, ◌+◌, ◌<◌, List, length, map, take, subst, arith}
+use Rattle.std.proofs.Common.{◌+◌, ◌<◌, List, length, map, take, subst, arith}
 use Rattle.std.proofs.lemmas.List.{take_all}
 use Rattle.pw_defs.specs.declared.netlist.Inst.{Inst}
 use Rattle.module_rows.specs.Reads.{module_at}

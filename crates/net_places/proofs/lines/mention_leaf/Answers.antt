@@ -1,5 +1,4 @@
 use Rattle.std.proofs.Common.{List, sym, ap, ◌∙◌, subst}
-use Rattle.module_rows.specs.Reads.{numbered_expr}
 use Rattle.net_places.specs.Gathered.{Gathers}
 use Rattle.net_places.specs.Mentions.{Mention, of_leaf}
 use Rattle.net_places.proofs.Mentioning.{gathers_nothing}

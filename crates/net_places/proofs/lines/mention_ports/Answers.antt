@@ -1,4 +1,4 @@
-use Rattle.std.proofs.Common.{ℕ, ◌+◌, ◌<◌, ◌∷◌, [], List, length, take, subst, arith, refl}
+use Rattle.std.proofs.Common.{◌+◌, ◌<◌, List, length, take, subst, arith}
 use Rattle.std.proofs.lemmas.List.{take_all}
 use Rattle.pw_defs.specs.declared.netlist.Port.{Port}
 use Rattle.module_rows.specs.Reads.{module_at}

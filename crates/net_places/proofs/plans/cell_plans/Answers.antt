@@ -1,4 +1,4 @@
-use Rattle.std.proofs.Common.{List, ℕ, map, arith}
+use Rattle.std.proofs.Common.{map, arith}
 use Rattle.std.proofs.lemmas.Option.{slice_get_within}
 use Rattle.pw_defs.specs.declared.cells.Cell.{Cell}
 use Rattle.pw_defs.specs.declared.netlist.Port.{Port}

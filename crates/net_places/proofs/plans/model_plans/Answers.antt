@@ -1,8 +1,7 @@
-use Rattle.std.proofs.Common.{List, ℕ, map, arith}
+use Rattle.std.proofs.Common.{map, arith}
 use Rattle.std.proofs.lemmas.Option.{slice_get_within}
 use Rattle.pw_defs.specs.declared.model.Model.{Model}
 use Rattle.pw_defs.specs.declared.netlist.Port.{Port}
-use Rattle.design_defs.specs.Ports.{port_of_pin}
 use Rattle.net_places.specs.Nets.{net_among}
 use Rattle.net_places.proofs.Adding.{added_count, bodies_more}
 use Rattle.net_places.proofs.plans.model_plans.Goals as goal

@@ -2,7 +2,6 @@ use Rattle.std.proofs.Common.{◌≡◌, ℕ, ◌<◌, [], length, map}
 use Rattle.std.specs.Prelude.{Some, slice_get, slice_index_or}
 use Rattle.pw_defs.specs.declared.model.Model.{Model}
 use Rattle.pw_defs.specs.declared.netlist.Port.{Port}
-use Rattle.design_defs.specs.Ports.{port_of_pin}
 use Rattle.net_places.specs.Nets.{net_among}
 use Rattle.net_places.specs.Tables.{IsPlanOf}
 use Rattle.net_places.proofs.plans.model_plans.Given as goal

@@ -1,6 +1,4 @@
-use Rattle.std.proofs.Common.{List, ℕ}
 use Rattle.module_rows.specs.Reads.{module_at}
-use Rattle.net_places.specs.declared.rows.NetRow.{NetRow}
 use Rattle.net_places.specs.Nets.{net_in}
 use Rattle.net_places.specs.Tables.{IsPlanOf}
 use Rattle.net_places.proofs.Adding.{added_count}

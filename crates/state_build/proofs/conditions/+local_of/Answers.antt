@@ -1,10 +1,10 @@
-use Rattle.std.proofs.Common.{rules, ◌≡◌, ◌+◌, ◌≤◌, ℕ, Bool, not, ◌&&◌, List, [], take, length, sym, ap, ◌∙◌, subst, refl, Some, inl, inr, Result, Ok, Err, IfOk, arith}
+use Rattle.std.proofs.Common.{rules, ◌≡◌, ◌+◌, ◌≤◌, ℕ, Bool, not, ◌&&◌, List, [], take, length, sym, ap, ◌∙◌, subst, refl, Some, Result, Ok, Err, IfOk, arith}
 use Rattle.std.specs.List.{slice_get}
 use Rattle.std.proofs.lemmas.Bool.{and_parts, ltb-true}
 use Rattle.std.proofs.lemmas.Option.{slice_get_read}
 use Rattle.pw_defs.specs.declared.values.Value.{Value}
 use Rattle.pw_defs.specs.declared.conditions.Cond.{Cond, the_lemmas}
-use Rattle.pw_defs.specs.declared.conditions.Cond.TheVariants.{Not, All, Any}
+use Rattle.pw_defs.specs.declared.conditions.Cond.TheVariants.{Not}
 use Rattle.supply_defs.specs.Conditions.{speaks_below}
 use Rattle.supply_defs.proofs.Meaning.{speaks_is, speaks_on, speaks_apart, speaks_not, speaks_all, speaks_any}
 use Rattle.plain_lists.specs.declared.faults.DiagFault.{DiagFault}
@@ -24,10 +24,10 @@ use Rattle.diagram_defs.specs.Answers.{IsCause, Yields}
 use Rattle.diagram_defs.proofs.Yielding.{Yields_last, value_of, reason_of}
 use Rattle.std.proofs.lemmas.List.{take_all}
 use Rattle.state_build.specs.Entries.{IsPartOfEntry}
-use Rattle.diagram_defs.specs.Locals.{IsLocalFor, states_from}
+use Rattle.diagram_defs.specs.Locals.{IsLocalFor}
 use Rattle.state_build.specs.Held.{all_states}
 use Rattle.state_build.proofs.Entering.{own_parts, not_parts, joined_parts, grown_parts, front_parts}
-use Rattle.diagram_defs.proofs.LocalSets.{local_grows, local_same, local_made, whole_parts}
+use Rattle.diagram_defs.proofs.LocalSets.{local_same, local_made, whole_parts}
 use Rattle.state_build.proofs.Lowering.{complement_states, complement_rests}
 use Rattle.state_build.proofs.Wholes.{built_true, built_not}
 use Rattle.state_build.proofs.conditions.+local_of.Goals as goal

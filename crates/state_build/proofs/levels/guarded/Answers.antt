@@ -8,7 +8,6 @@ use Rattle.state_build.specs.ValueTests.{guarded_set}
 use Rattle.std.proofs.Math.Bool.{and-true, and-false}
 use Rattle.diagram_defs.proofs.Yielding.{value_of, reason_of}
 use Rattle.state_build.proofs.levels.guarded.Goals as goal
-use Rattle.state_build.proofs.levels.guarded.Goals.{Then-some}
 
 all : (d : Diagram) (level : ℕ) (some : Bool) → some ≡ true → (rest : List ℕ) → full_set d level rest ≡ guarded_set d.arities level some rest
 all d level some is rest = sym (ap (λ (b : Bool). guarded_set d.arities level b rest) is ∙ and-true (full_set d level rest))

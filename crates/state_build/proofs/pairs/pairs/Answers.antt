@@ -11,7 +11,7 @@ use Rattle.state_build.proofs.Tested.{AreRests_tested, tested_parts, tested_wide
 use Rattle.diagram_defs.proofs.LocalSets.{local_made}
 use Rattle.state_build.proofs.Pairing.{level_in, pair_test, pair_whole}
 use Rattle.state_build.proofs.pairs.pairs.Goals as goal
-use Rattle.state_build.proofs.pairs.pairs.Goals.{After-pair_kids, In_ok-kids, After-as_slice, After-case, In_ok-number}
+use Rattle.state_build.proofs.pairs.pairs.Goals.{After-pair_kids, After-as_slice, After-case, In_ok-number}
 
 first_in : (c : After-pair_kids) → c.args.first < length c.args.pool.now.arities
 first_in c =

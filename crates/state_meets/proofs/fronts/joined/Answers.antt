@@ -1,4 +1,3 @@
-use Rattle.std.proofs.Common.{ℕ, Bool, List}
 use Rattle.diagram_defs.specs.Locals.{IsLocalFor}
 use Rattle.diagram_defs.specs.Parts.{GrowsBy}
 use Rattle.diagram_defs.proofs.LocalSets.{local_same}

@@ -1,4 +1,4 @@
-use Rattle.std.proofs.Common.{Bool, ◌∷◌, [], subst}
+use Rattle.std.proofs.Common.{Bool, subst}
 use Rattle.diagram_defs.specs.Diagrams.{IsNumberFor}
 use Rattle.state_meets.specs.Walks.{constant_set}
 use Rattle.state_meets.specs.Gathered.{begun_of}

@@ -1,4 +1,4 @@
-use Rattle.std.proofs.Common.{◌≡◌, sym, ◌∙◌, arith}
+use Rattle.std.proofs.Common.{sym, ◌∙◌, arith}
 use Rattle.list_defs.specs.Members.{same_name}
 use Rattle.list_defs.proofs.NameLemmas.{place_of-within}
 use Rattle.lib_cells.proofs.tables.PinTable.say.Goals as goal

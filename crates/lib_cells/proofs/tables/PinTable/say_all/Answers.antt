@@ -1,6 +1,6 @@
-use Rattle.std.proofs.Common.{◌≡◌, ◌+◌, ◌++◌, List, [], ◌∷◌, length, map, take, refl, sym, ap, ◌∙◌, subst}
-use Rattle.std.proofs.lemmas.List.{append-nil, take_all, take_more}
-use Rattle.lib_cells.specs.Mentions.{AreSaid, Mention, mentions_of}
+use Rattle.std.proofs.Common.{◌+◌, ◌++◌, map, take, sym, subst}
+use Rattle.std.proofs.lemmas.List.{append-nil, take_more}
+use Rattle.lib_cells.specs.Mentions.{AreSaid, mentions_of}
 use Rattle.lib_cells.proofs.MentionLaws.{mentioned_more, said_once_more}
 use Rattle.lib_cells.proofs.tables.PinTable.say_all.Goals as goal
 

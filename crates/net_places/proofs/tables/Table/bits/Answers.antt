@@ -1,6 +1,4 @@
-use Rattle.std.proofs.Common.{List, Some, length, sym, ap, ◌∙◌, arith}
-use Rattle.std.specs.Prelude.{slice_get}
-use Rattle.net_places.specs.declared.rows.NetRow.{NetRow}
+use Rattle.std.proofs.Common.{sym, ap}
 use Rattle.net_places.specs.Tables.{bits_in}
 use Rattle.net_places.proofs.Parts.{rows_past}
 use Rattle.net_places.proofs.tables.Table.bits.Goals as goal

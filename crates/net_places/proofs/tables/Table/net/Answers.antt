@@ -1,7 +1,6 @@
-use Rattle.std.proofs.Common.{List, Some, length, sym, ap, ◌∙◌, arith}
+use Rattle.std.proofs.Common.{List, sym, ap, ◌∙◌, arith}
 use Rattle.std.specs.Prelude.{slice_get}
 use Rattle.net_places.specs.declared.rows.NetRow.{NetRow}
-use Rattle.net_places.specs.Tables.{bits_in}
 use Rattle.std.proofs.lemmas.Option.{slice_get_past}
 use Rattle.net_places.specs.Tables.{part}
 use Rattle.net_places.proofs.Parts.{part_get, part_is, part_length, rows_past, rows_there}

@@ -1,8 +1,6 @@
-use Rattle.std.proofs.Common.{subst, length}
+use Rattle.std.proofs.Common.{subst}
 use Rattle.std.proofs.lemmas.Bool.{MatchBool-at_true, MatchBool-at_false}
 use Rattle.diagram_defs.specs.Diagrams.{HasKid}
-use Rattle.diagram_defs.specs.Parts.{IsPartOf}
-use Rattle.diagram_defs.specs.Sets.{case_set}
 use Rattle.state_diagrams.specs.Nodes.{HasNoKid}
 use Rattle.diagram_defs.proofs.PartLemmas.{GrowsBy_none}
 use Rattle.state_diagrams.proofs.Cases.{case_makes, case_empty}

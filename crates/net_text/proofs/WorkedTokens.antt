@@ -3,7 +3,7 @@ use Rattle.std.proofs.Common.{◌≡◌, ℕ, List, [], ◌∷◌, map, codes, r
 use Rattle.text_defs.specs.Lines.{line_at}
 use Rattle.text_defs.specs.Pieces.{pieces_from, closed_by}
 use Rattle.text_defs.specs.Tokens.{Token}
-use Rattle.net_text.specs.NetlistTokens.{NetlistClass, Module, Name, Number, LeftOut, Inout, Stray, netlist_tokens, netlist_piece, word_class, left_out_words}
+use Rattle.net_text.specs.NetlistTokens.{NetlistClass, Module, Name, Number, NetlistClass.Constant, LeftOut, Inout, Stray, netlist_tokens, netlist_piece, word_class, left_out_words}
 
 -- all that cutting a text computes with
 abbrev cutting : Unit {0}

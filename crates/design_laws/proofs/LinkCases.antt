@@ -95,7 +95,7 @@ link_by s m l there =
     of_conn i c in_m in_i (Some p) port (Some e) is within = of_port s m i c e p l in_m in_i is port p.dir refl within
 
 -- OWN NAMES of instances.
-differ_behind : (xs ys : List (List ℕ)) → all_differ same_name (xs ++ ys) ≡ true → all_differ same_name ys ≡ true
+pub differ_behind : (xs ys : List (List ℕ)) → all_differ same_name (xs ++ ys) ≡ true → all_differ same_name ys ≡ true
 differ_behind [] ys e = e
 differ_behind (x ∷ xs) ys e = differ_behind xs ys (and_parts (not (list_any (same_name x) (xs ++ ys))) (all_differ same_name (xs ++ ys)) e).1
 

@@ -1,5 +1,5 @@
 -- The bits of a body, and of a hierarchy, by their numbers.
-use Rattle.std.proofs.Common.{◌≡◌, ℕ, zero, suc, ◌+◌, ◌-◌, ◌<◌, ◌≤◌, ◌⊎◌, inl, inr, List, [], ◌∷◌, ◌++◌, length, get_or, map, take, refl, sym, ap, ◌∙◌, subst, arith}
+use Rattle.std.proofs.Common.{◌≡◌, ℕ, zero, suc, ◌+◌, ◌<◌, ◌≤◌, ◌⊎◌, inl, inr, List, [], ◌∷◌, ◌++◌, length, map, take, refl, sym, ap, ◌∙◌, subst, arith}
 use Rattle.std.specs.Prelude.{Option, Some, None, option_map, option_and_then, slice_get}
 use Rattle.std.specs.List.{AllByRecursion, flat_map, range_with_len, sum_by}
 use Rattle.std.specs.Ordering.{nat_cmp, ordering_reverse, ordering_then}

@@ -9,3 +9,4 @@ pub mod BitLaws
 pub mod Starting
 pub mod Indexing
 pub mod Adding
+pub mod FindLemmas

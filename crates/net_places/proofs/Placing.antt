@@ -1,6 +1,6 @@
 -- Nets in the order of their names, and the numbers of their first bits.
-use Rattle.std.proofs.Common.{◌≡◌, ◌≢◌, ℕ, zero, suc, ◌+◌, ◌<◌, ◌≤◌, Bool, true, false, cond, List, [], ◌∷◌, ◌++◌, length, get_or, map, take, refl, sym, ap, ◌∙◌, subst, arith, inl, inr, is_lt, append_assoc}
-use Rattle.std.specs.Prelude.{Option, Some, slice_get, slice_index_or}
+use Rattle.std.proofs.Common.{◌≡◌, ℕ, zero, suc, ◌+◌, ◌<◌, ◌≤◌, Bool, true, false, cond, List, [], ◌∷◌, ◌++◌, length, get_or, map, take, refl, sym, ap, ◌∙◌, subst, arith, inl, inr, is_lt, append_assoc}
+use Rattle.std.specs.Prelude.{Option, Some, slice_index_or}
 use Rattle.std.specs.Cmp.{IsTotalOrder}
 use Rattle.std.specs.List.{All, AllByRecursion, Contains, count_by, sum_by}
 use Rattle.std.specs.List.Sorted.{IsPermutation, IsSorted}

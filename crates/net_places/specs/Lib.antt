@@ -4,3 +4,4 @@ pub mod Mentions
 pub mod Gathered
 pub mod Tables
 pub mod Plans
+pub mod Finding

@@ -6,6 +6,7 @@
 #![tactic(auto)]
 
 mod bodies;
+mod finding;
 mod gathering;
 mod laws;
 mod lines;
@@ -14,6 +15,8 @@ mod plans;
 mod rows;
 mod tables;
 
+pub use finding::Spellings;
 pub use laws::{what_leaves_name, where_bits_stand};
 pub use plans::{Plans, plans_of};
 pub use rows::NetRow;
+pub use tables::width;

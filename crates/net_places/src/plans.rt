@@ -1,5 +1,5 @@
 //! The plans of all modules, cells and models.
-ghost use Rattle.std.specs.Prelude.{◌≡◌, ◌+◌, ◌<◌, ℕ, [], IfOk, Some, length, map, slice_get, slice_index_or};
+ghost use Rattle.std.specs.Prelude.{◌≡◌, ◌+◌, ◌<◌, ◌≤◌, ℕ, [], IfOk, IfSome, Some, length, map, slice_get, slice_index_or};
 ghost use Rattle.pw_defs.specs.declared.cells.Cell.{Cell as PlainCell};
 ghost use Rattle.pw_defs.specs.declared.model.Model.{Model as PlainModel};
 ghost use Rattle.pw_defs.specs.declared.netlist.Port.{Port as PlainPort};
@@ -178,9 +178,11 @@ impl Plans {
         }
     }
 
-    /// A net of a body, by its number among the nets in the order of their names.
+    /// A net of a body, by its number among the nets in the order of their names. Each bit of the body has a number of 64
+    /// bits.
     pub fn net(&self, body: Body, net: u32) -> Option<NetRow>
-        ensures { result ≡ slice_get (rows_at self.now body) net }
+        ensures net { result ≡ slice_get (rows_at self.now body) net }
+        ensures bits { IfSome result (λ _. bits_in (rows_at self.now body) ≤ 18446744073709551615) }
     {
         match body {
             Body::Module(number) => self.modules.net(number, net),

@@ -1,5 +1,5 @@
 //! The rows of the nets of many bodies in one table.
-ghost use Rattle.std.specs.Prelude.{◌≡◌, ◌+◌, ◌<◌, ◌++◌, ◌∷◌, [], List, OnOk, IfOk, Some, length, slice_get, slice_index_or};
+ghost use Rattle.std.specs.Prelude.{◌≡◌, ◌+◌, ◌<◌, ◌≤◌, ◌++◌, ◌∷◌, [], List, OnOk, IfOk, IfSome, Some, length, slice_get, slice_index_or};
 ghost use Rattle.net_places.specs.declared.rows.NetRow.{NetRow as Row};
 ghost use Rattle.design_defs.specs.Ranges.{width};
 ghost use Rattle.net_places.specs.Tables.{bits_in, placed_from};
@@ -38,7 +38,7 @@ impl Model for Table {
 }
 
 /// How many bits a net has.
-fn width(range: Option<(u32, u32)>) -> u64
+pub fn width(range: Option<(u32, u32)>) -> u64
     ensures { result ≡ width range }
 {
     match range {
@@ -134,10 +134,12 @@ impl Table {
 
     /// A net of a body, by its number among the nets in the order of their names.
     pub fn net(&self, body: u32, net: u32) -> Option<NetRow>
-        ensures { result ≡ slice_get (slice_index_or self.now body []) net }
+        ensures net { result ≡ slice_get (slice_index_or self.now body []) net }
+        ensures bits { IfSome result (λ _. bits_in (slice_index_or self.now body []) ≤ 18446744073709551615) }
     {
         match self.bodies.get(body) {
             Some(row) => {
+                let row = *row;
                 if net < row.end - row.first {
                     Some(net_behind(&self.nets, row.first, net))
                 } else {

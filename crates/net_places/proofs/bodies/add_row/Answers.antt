@@ -1,4 +1,4 @@
-use Rattle.std.proofs.Common.{◌≡◌, true, false, ◌++◌, ◌∷◌, [], refl, sym, ◌∙◌}
+use Rattle.std.proofs.Common.{◌≡◌, ◌++◌, ◌∷◌, [], refl, sym, ◌∙◌}
 use Rattle.std.specs.List.{list_any}
 use Rattle.list_defs.specs.Members.{same_name}
 use Rattle.net_places.specs.declared.rows.NamedRow.{NamedRow}

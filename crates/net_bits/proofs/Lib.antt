@@ -1,0 +1,5 @@
+pub mod Bodies
+pub mod Beginnings
+pub mod Spots
+pub mod Spellings
+pub mod Ups

@@ -1,0 +1,9 @@
+pub mod Marking
+pub mod SecondLemmas
+pub mod RowLinks
+pub mod LinkLemmas
+pub mod FeedLemmas
+pub mod FirstFault
+pub mod Naming
+pub mod TopMarks
+pub mod TopLemmas

@@ -1,0 +1,11 @@
+pub mod ListLemmas
+pub mod Growing
+pub mod AddedKinds
+pub mod BitFeeds
+pub mod OwnFeeds
+pub mod Bodies
+pub mod Signals
+pub mod Standing
+pub mod Fed
+pub mod Made
+pub mod Finished

@@ -1,0 +1,12 @@
+use Rattle.std.proofs.Common.{arith, ◌∙◌}
+use Rattle.pw_defs.specs.declared.cells.Dir.TheVariants.{Output}
+use Rattle.net_links.specs.LocalLinks.{locals}
+use Rattle.net_links.proofs.RunLemmas.{not_cut, put_more, run_length}
+use Rattle.net_links.proofs.pieces.put_outputs.Goals as goal
+
+pub loop-run-preserved : goal.loop-run-preserved
+loop-run-preserved c few fits =
+    let l = c.loop-run in
+    put_more Output c.args.inst.number c.args.inst.line c.args.first l.bit c.saturating_add-bit.result c.args.runs.now l.run-index _ (locals c.args.rows.now) (locals l.rows)
+    (locals c.put_out.new.rows) (omega (arith, c.loop-run-test.true)) few fits (l.invariant few fits) c.in_ok-put_out.ensures
+    (λ inside. not_cut l.bit c.count.result _ c.saturating_add-bit.result c.saturating_add-bit.ensures (c.count.ensures ∙ run_length _) inside)

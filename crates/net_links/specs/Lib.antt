@@ -1,0 +1,3 @@
+pub mod LocalLinks
+pub mod RunLinks
+pub mod Adding

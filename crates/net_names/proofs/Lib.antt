@@ -1,0 +1,12 @@
+pub mod Splits
+pub mod Law
+pub mod Marking
+pub mod EachBody
+pub mod Freed
+pub mod Stands
+pub mod MeetLaws
+pub mod Ranks
+pub mod Steps
+pub mod PortSteps
+pub mod Walks
+pub mod Answered

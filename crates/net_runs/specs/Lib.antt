@@ -1,0 +1,4 @@
+pub mod LocalNumbers
+pub mod Wired
+pub mod Known
+pub mod Leaves

@@ -1,0 +1,4 @@
+pub mod Refusals
+pub mod Sides
+pub mod WiredLines
+pub mod Ports

@@ -1,8 +1,4 @@
 pub mod ExactReadings
-pub mod OwnNames
-pub mod GivenCells
-pub mod DeclaredNames
-pub mod LeftSides
 pub mod ReadSources
 pub mod OneAnswer
 pub mod AbsentFiles

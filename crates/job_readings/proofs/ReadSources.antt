@@ -1,34 +1,20 @@
 -- The cells and modules that a job reads: they are what a design is made from.
-use Rattle.std.proofs.Common.{ℕ, List, [], ◌∷◌, ◌++◌, inl, inr, refl, sym, subst}
+use Rattle.std.proofs.Common.{ℕ, List, [], ◌∷◌, refl, sym, subst}
 use Rattle.pw_defs.specs.declared.cells.Cell.{Cell}
 use Rattle.pw_defs.specs.declared.cells.Cells.{Cells}
 use Rattle.pw_outer.specs.Fetches.{Files}
-use Rattle.list_defs.specs.Members.{IsIn}
-use Rattle.list_defs.proofs.Members.{IsIn-append_cases}
-use Rattle.lib_cells.specs.Joins.{JoinsTo, same_cell_name}
 use Rattle.design_defs.specs.DesignFaults.{sources}
-use Rattle.design_defs.specs.Inputs.{AreReadSources, IsReadCell}
+use Rattle.design_defs.specs.Inputs.{AreReadSources}
+use Rattle.design_laws.specs.FullNames.{HaveFullNames}
 use Rattle.step_defs.specs.Steps.{for_each, in_turn}
 use Rattle.job_defs.specs.FileFaults.{ReadNetlist, modules_of}
 use Rattle.job_defs.specs.Jobs.{Job, libraries, netlists}
 use Rattle.job_defs.specs.Loading.{all_cells, all_netlists, netlist_read, no_cells, one_library_more}
 use Rattle.job_readings.specs.Readings.{readers}
-use Rattle.job_readings.specs.Laws.{AreReadCells, AreReadModules}
-use Rattle.job_readings.proofs.LeftSides.{netlists_give_modules}
-use Rattle.job_readings.proofs.GivenCells.{libraries_give_cells}
-use Rattle.job_readings.proofs.OwnNames.{differ_apart, firsts_apart, firsts_in}
-
-abbrev name_of : Cell → List ℕ
-name_of cell = cell.name
-
-pub joined_are_read : (all more joined : Cells) → JoinsTo all more joined → AreReadCells all → AreReadCells more → AreReadCells joined
-joined_are_read all more joined joins of_all of_more = subst AreReadCells (sym joins.value) (record {
-  each = λ c i. each c (firsts_in same_cell_name (all.cells ++ more.cells) c i);
-  names = differ_apart _ (firsts_apart name_of (all.cells ++ more.cells));
-})
-  where
-    each : (c : Cell) → IsIn c (all.cells ++ more.cells) → IsReadCell c
-    each c i = elim (IsIn-append_cases c all.cells more.cells i) [ inl before ↦ of_all.each c before | inr behind ↦ of_more.each c behind ]
+use Rattle.read_laws.specs.Laws.{AreFullModules, AreReadCells, AreReadModules}
+use Rattle.read_laws.proofs.GivenCells.{libraries_give_cells}
+use Rattle.read_laws.proofs.GivenModules.{full_names_are_given, netlists_give_modules}
+use Rattle.read_laws.proofs.ReadSources.{joined_are_read, more_are_full, more_are_read, no_cells_are_read, no_modules_are_full, no_modules_are_read}
 
 -- the cells of libraries, one after another
 pub cells_are_read : (files : Files) (start : Cells) (names : List (List ℕ)) (cells : Cells)
@@ -42,18 +28,21 @@ cells_are_read files start (name ∷ names) cells given of_start =
 -- the modules of netlists, one after another
 pub modules_are_read : (files : Files) (names : List (List ℕ)) (read : List ReadNetlist) → (for_each (netlist_read readers files) names).gives read
     → AreReadModules (modules_of read)
-modules_are_read files [] read given = subst (λ (r : List ReadNetlist). AreReadModules (modules_of r)) (sym given) (λ m i. absurd i)
+modules_are_read files [] read given = subst (λ (r : List ReadNetlist). AreReadModules (modules_of r)) (sym given) no_modules_are_read
 modules_are_read files (name ∷ names) read given = subst (λ (r : List ReadNetlist). AreReadModules (modules_of r)) (sym given.2.2)
-    (both (modules_are_read files names given.2.0 given.2.1))
+    (more_are_read given.0.modules (modules_of given.2.0) of_first (modules_are_read files names given.2.0 given.2.1))
   where
     of_first : AreReadModules given.0.modules
     of_first = subst (λ (n : ReadNetlist). AreReadModules n.modules) (sym given.1.2) (netlists_give_modules _ given.1.0 given.1.1)
 
-    both : AreReadModules (modules_of given.2.0) → AreReadModules (modules_of (given.0 ∷ given.2.0))
-    both rest m i = elim (IsIn-append_cases m given.0.modules (modules_of given.2.0) i) [ inl here ↦ of_first m here | inr behind ↦ rest m behind ]
-
-no_cells_are_read : AreReadCells no_cells
-no_cells_are_read = record { each = λ c i. absurd i; names = refl }
+pub modules_are_full : (files : Files) (names : List (List ℕ)) (read : List ReadNetlist) → (for_each (netlist_read readers files) names).gives read
+    → AreFullModules (modules_of read)
+modules_are_full files [] read given = subst (λ (r : List ReadNetlist). AreFullModules (modules_of r)) (sym given) no_modules_are_full
+modules_are_full files (name ∷ names) read given = subst (λ (r : List ReadNetlist). AreFullModules (modules_of r)) (sym given.2.2)
+    (more_are_full given.0.modules (modules_of given.2.0) of_first (modules_are_full files names given.2.0 given.2.1))
+  where
+    of_first : AreFullModules given.0.modules
+    of_first = subst (λ (n : ReadNetlist). AreFullModules n.modules) (sym given.1.2) (full_names_are_given _ given.1.0 given.1.1)
 
 -- The modules and cells that a job reads fit together: they are what a design is made from.
 pub sources_are_read : (files : Files) (job : Job) (cells : Cells) (read : List ReadNetlist) → (all_cells readers files job).gives cells
@@ -67,3 +56,8 @@ sources_are_read files job cells read of_libraries of_netlists =
       cell_names = of_cells.names;
       model_names = refl;
     }
+
+-- No name in the modules that a job reads is empty.
+pub sources_have_full_names : (files : Files) (job : Job) (cells : Cells) (read : List ReadNetlist) → (all_netlists readers files job).gives read
+    → HaveFullNames (sources (modules_of read) cells [] job.top)
+sources_have_full_names files job cells read of_netlists = modules_are_full files (netlists job) read of_netlists

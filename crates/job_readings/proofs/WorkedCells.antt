@@ -4,8 +4,8 @@ use Rattle.std.proofs.lemmas.Bool.{false≢true}
 use Rattle.worked_jobs.specs.Libraries.{buffer, library}
 use Rattle.worked_jobs.specs.Texts.{cells_text}
 use Rattle.lib_cells.proofs.WorkedJobs.{the_library_is_read}
-use Rattle.job_readings.specs.Laws.{AreReadCells}
-use Rattle.job_readings.proofs.GivenCells.{libraries_give_cells}
+use Rattle.read_laws.specs.Laws.{AreReadCells}
+use Rattle.read_laws.proofs.GivenCells.{libraries_give_cells}
 
 pub the_cells_of_the_library_are_read : AreReadCells library
 the_cells_of_the_library_are_read = libraries_give_cells cells_text library the_library_is_read

@@ -1,38 +1,17 @@
 -- What is asked of sources and scripts so that a job has one answer, and that it has one.
-use Rattle.std.specs.Prelude.{◌≡◌, ℕ, List, [], map}
-use Rattle.pw_defs.specs.declared.cells.Cell.{Cell}
+use Rattle.std.specs.Prelude.{◌≡◌, ℕ, List, []}
 use Rattle.pw_defs.specs.declared.cells.Cells.{Cells}
 use Rattle.pw_defs.specs.declared.design.Design.{Design}
 use Rattle.pw_defs.specs.declared.intent.Intent.{Intent}
 use Rattle.pw_defs.specs.declared.intent.Want.TheVariants.{Check}
 use Rattle.pw_defs.specs.declared.netlist.Module.{Module}
 use Rattle.pw_outer.specs.Fetches.{Files}
-use Rattle.list_defs.specs.Members.{IsIn}
-use Rattle.lib_cells.specs.LibraryFaults.{ReadsAsCells}
-use Rattle.net_text.specs.NetlistFaults.{ReadsAsModules}
 use Rattle.design_defs.specs.DesignFaults.{IsDesignOf, sources}
-use Rattle.design_defs.specs.Inputs.{AllDiffer, IsReadCell, IsReadModule, AreReadSources}
+use Rattle.design_defs.specs.Inputs.{AreReadSources}
 use Rattle.design_defs.specs.Sound.{IsSoundDesign}
 use Rattle.domain_defs.specs.SoundIntent.{IsSoundIntent}
 use Rattle.job_defs.specs.Answers.{Answer}
 use Rattle.job_readings.specs.Readings.{readers, Deserves}
-
--- cells as libraries give them, each of a name of its own
-pub record AreReadCells (cells : Cells) : Type 0 where
-  pub each : (c : Cell) → IsIn c cells.cells → IsReadCell c
-  pub names : AllDiffer (map (λ (c : Cell). c.name) cells.cells)
-
--- modules as netlists give them
-abbrev pub AreReadModules : List Module → Type 0
-AreReadModules modules = (m : Module) → IsIn m modules → IsReadModule m
-
--- the text of a library gives such cells
-abbrev pub LibrariesGiveCells : Type 0
-LibrariesGiveCells = (text : List ℕ) (cells : Cells) → ReadsAsCells text cells → AreReadCells cells
-
--- the text of a netlist gives such modules
-abbrev pub NetlistsGiveModules : Type 0
-NetlistsGiveModules = (text : List ℕ) (modules : List Module) → ReadsAsModules text modules → AreReadModules modules
 
 -- the design of such modules and cells is sound
 abbrev pub SourcesMakeSoundDesigns : Type 0

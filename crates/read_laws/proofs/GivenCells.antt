@@ -24,8 +24,8 @@ use Rattle.lib_cells.specs.Joins.{same_cell_name}
 use Rattle.design_defs.specs.Drivers.{is_interface_cell}
 use Rattle.design_defs.specs.Inputs.{AllDiffer, HasItsRoles, IsReadCell}
 use Rattle.design_defs.specs.Ports.{is_output}
-use Rattle.job_readings.specs.Laws.{AreReadCells, LibrariesGiveCells}
-use Rattle.job_readings.proofs.OwnNames.{AreApart, differ_apart, firsts_apart, firsts_in, made_apart, split_at}
+use Rattle.read_laws.specs.Laws.{AreReadCells, LibrariesGiveCells}
+use Rattle.read_laws.proofs.OwnNames.{AreApart, differ_apart, firsts_apart, firsts_in, made_apart, split_at}
 
 -- ---- names of pins
 

@@ -19,16 +19,16 @@ use Rattle.net_text.specs.NetlistGrammar.{Assigns, Directions, Header, Instance,
 use Rattle.net_text.specs.SecondDeclarations.{Declaration, HeaderPort, InstanceName, PortDirection, WireName}
 use Rattle.net_text.specs.SecondDeclarations.{IsInstance, IsNamed, IsRefused, IsWire, declarations, header_ports, item_declarations, named_in, shaped_ports}
 use Rattle.design_defs.specs.Inputs.{AllDiffer, declared_names}
-use Rattle.job_readings.proofs.OwnNames.{AreApart, apart_joined, differ_apart, made_from, split_at}
+use Rattle.read_laws.proofs.OwnNames.{AreApart, apart_joined, differ_apart, made_from, split_at}
 
 -- ports, wires and instances apart from what declares nothing anew
-abbrev kind_of : Declaration → ℕ
+abbrev pub kind_of : Declaration → ℕ
 kind_of (HeaderPort n shape) = 0
 kind_of (WireName n range) = 1
 kind_of (InstanceName n) = 2
 kind_of (PortDirection n shape) = 3
 
-abbrev text_of : Declaration → List ℕ
+abbrev pub text_of : Declaration → List ℕ
 text_of d = (named_in d).text
 
 -- the second cannot stand behind the first
@@ -78,7 +78,7 @@ one_kind (x ∷ ds) free d e (inr i) (inl q) c back = absurd (free.0 d i (subst 
 one_kind (x ∷ ds) free d e (inr i) (inr j) c back = one_kind ds free.1 d e i j c back
 
 -- what is chosen of declarations of one kind, under their names
-abbrev Chooses : {X : Type 0} → ℕ → (Declaration → Option X) → (X → List ℕ) → Type 0
+abbrev pub Chooses : {X : Type 0} → ℕ → (Declaration → Option X) → (X → List ℕ) → Type 0
 Chooses {X} kind choose name = (d : Declaration) (x : X) → choose d ≡ Some x → (kind_of d ≡ kind) × (name x ≡ text_of d)
 
 chosen_apart : {X : Type 0} (kind : ℕ) (choose : Declaration → Option X) (name : X → List ℕ) → kind < 3 → Chooses kind choose name → (ds : List Declaration)
@@ -121,7 +121,7 @@ none_shared kind choose name below chooses text texts ds free n i j =
 
 -- ---- ports, wires and instances
 
-chooses_port : (given : List Declaration) → Chooses 0 (port_in given) (λ (p : Port). p.name)
+pub chooses_port : (given : List Declaration) → Chooses 0 (port_in given) (λ (p : Port). p.name)
 chooses_port given (HeaderPort n shape) p made =
     (refl, by (λ s. record { name = n.text; dir = s.dir; range = s.range }) (λ s. refl) (shape_of n.text given) made)
   where
@@ -141,19 +141,19 @@ net_told given n range w made = by (list_any (is_port_named n.text) given) made
     by true e = absurd (none-some w e)
     by false e = (ap (λ (v : Net). v.name) (sym (same_Some _ w e)), refl)
 
-chooses_net : (given : List Declaration) → Chooses 1 (net_in given) (λ (w : Net). w.name)
+pub chooses_net : (given : List Declaration) → Chooses 1 (net_in given) (λ (w : Net). w.name)
 chooses_net given (HeaderPort n shape) w made = absurd (none-some w made)
 chooses_net given (PortDirection n shape) w made = absurd (none-some w made)
 chooses_net given (WireName n range) w made = (refl, (net_told given n range w made).0)
 chooses_net given (InstanceName n) w made = absurd (none-some w made)
 
-abbrev instance_text : Declaration → Option (List ℕ)
+abbrev pub instance_text : Declaration → Option (List ℕ)
 instance_text (HeaderPort n shape) = None
 instance_text (PortDirection n shape) = None
 instance_text (WireName n range) = None
 instance_text (InstanceName n) = Some n.text
 
-chooses_instance : Chooses 2 instance_text (λ n. n)
+pub chooses_instance : Chooses 2 instance_text (λ n. n)
 chooses_instance (HeaderPort n shape) t made = absurd (none-some t made)
 chooses_instance (PortDirection n shape) t made = absurd (none-some t made)
 chooses_instance (WireName n range) t made = absurd (none-some t made)
@@ -205,7 +205,7 @@ none_in_header : (header : Header) → filter_map instance_text (header_ports he
 none_in_header (Names names) = none_made (λ n. HeaderPort n None) (λ n. refl) names
 none_in_header (Shaped shape name more) = none_in_shaped shape more
 
-abbrev inst_name : Inst → List ℕ
+abbrev pub inst_name : Inst → List ℕ
 inst_name i = i.name
 
 of_item : (item : Item) → map inst_name (insts_in item) ≡ filter_map instance_text (item_declarations item)
@@ -221,14 +221,14 @@ of_items (item ∷ items) =
     ∙ (λ i. of_item item i ++ of_items items i)
     ∙ sym (filter_map-append instance_text (item_declarations item) (flat_map item_declarations items))
 
-instance_names : (m : ModuleWords) → map inst_name (flat_map insts_in m.items) ≡ filter_map instance_text (declarations m)
+pub instance_names : (m : ModuleWords) → map inst_name (flat_map insts_in m.items) ≡ filter_map instance_text (declarations m)
 unfolding declarations
 instance_names m =
     of_items m.items
     ∙ ap (λ ns. ns ++ filter_map instance_text (flat_map item_declarations m.items)) (sym (none_in_header m.header))
     ∙ sym (filter_map-append instance_text (header_ports m.header) (flat_map item_declarations m.items))
 
-same_texts : (ns : List (List ℕ)) → map (λ (n : List ℕ). n) ns ≡ ns
+pub same_texts : (ns : List (List ℕ)) → map (λ (n : List ℕ). n) ns ≡ ns
 same_texts [] = refl
 same_texts (n ∷ ns) = ap (λ xs. n ∷ xs) (same_texts ns)
 

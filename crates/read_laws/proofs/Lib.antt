@@ -1,0 +1,10 @@
+pub mod Phrases
+pub mod FullTokens
+pub mod OwnNames
+pub mod DeclaredNames
+pub mod LeftSides
+pub mod FullNames
+pub mod ReadItems
+pub mod GivenModules
+pub mod GivenCells
+pub mod ReadSources

@@ -1,17 +1,15 @@
 -- The links of all instances by their numbers: which bits they feed, and that links which are apart are no faults.
-use Rattle.std.proofs.Common.{◌≡◌, ◌≢◌, ℕ, zero, suc, ◌+◌, ◌-◌, ◌<◌, ◌≤◌, ◌⊎◌, inl, inr, Bool, true, false, List, [], ◌∷◌, ◌++◌, get_or, length, map, refl, sym, ap, ◌∙◌, subst, arith}
-use Rattle.std.specs.Prelude.{Option, Some, None, option_map}
-use Rattle.std.specs.List.{AllZip, flat_map, range_with_len, slice_get, slice_index_or}
+use Rattle.std.proofs.Common.{◌≡◌, ◌≢◌, ℕ, zero, suc, ◌+◌, ◌-◌, ◌<◌, ◌≤◌, ◌⊎◌, inl, inr, Bool, true, false, List, [], ◌∷◌, ◌++◌, get_or, length, refl, sym, ap, ◌∙◌, subst, arith}
+use Rattle.std.specs.Prelude.{Option, Some, None}
+use Rattle.std.specs.List.{AllZip, range_with_len, slice_get}
 use Rattle.std.specs.Ordering.{nat_cmp, ordering_then}
-use Rattle.std.specs.declared.cmp.Ordering.{Ordering}
 use Rattle.std.specs.declared.cmp.Ordering.TheVariants.{Less}
 use Rattle.std.proofs.lemmas.Bool.{cases_lt, cases_order}
 use Rattle.std.proofs.lemmas.List.{length-append}
 use Rattle.std.proofs.lemmas.List.FromFn.{get_or-range_with_len, length-range_with_len}
 use Rattle.std.proofs.lemmas.Option.{get_or_from_slice_get, same_Some, slice_get-get_or, slice_get_within}
 use Rattle.design_rows.specs.declared.tables.Feed.{Feed}
-use Rattle.design_rows.specs.declared.tables.Feed.TheVariants.{Constant, Nothing}
-use Rattle.design_rows.specs.declared.tables.Feed.TheVariants.{Bit as BitFeed}
+use Rattle.design_rows.specs.declared.tables.Feed.TheVariants.{Nothing}
 use Rattle.pw_defs.specs.declared.design.Body.{Body}
 use Rattle.pw_defs.specs.declared.design.Body.TheVariants.{Module as ModuleBody, Cell as CellBody, Model as ModelBody}
 use Rattle.pw_defs.specs.declared.netlist.Module.{Module}
@@ -24,7 +22,7 @@ use Rattle.list_defs.proofs.OneList.{one_place}
 use Rattle.design_defs.specs.Bits.{HasSpotName, IsSpot, Spot, spot_cmp}
 use Rattle.design_defs.specs.DesignFaults.{Fault, FaultKind, IsFault, IsTopInput, at_line, kind_number, place_cmp}
 use Rattle.design_defs.specs.Designs.{IsLinked}
-use Rattle.design_defs.specs.Hierarchy.{IsOfModule, Sources, Way, body_at, way_cmp}
+use Rattle.design_defs.specs.Hierarchy.{IsOfModule, Sources, Way, way_cmp}
 use Rattle.design_defs.specs.Links.{IsLink}
 use Rattle.design_defs.proofs.BitOrders.{spot_total, way_total}
 use Rattle.design_laws.proofs.Top.{rising_places}

@@ -1,5 +1,5 @@
 -- The links of the modules of instances are those of the hierarchy.
-use Rattle.std.proofs.Common.{◌≡◌, ℕ, ◌+◌, ◌<◌, List, [], ◌∷◌, get_or, length, map, refl, sym, ap, ◌∙◌, subst, arith}
+use Rattle.std.proofs.Common.{◌≡◌, ℕ, ◌+◌, List, [], ◌∷◌, get_or, map, refl, sym, ap, ◌∙◌, subst, arith}
 use Rattle.std.specs.Option.{IsSomeAnd}
 use Rattle.std.specs.Prelude.{MatchOption, Option, Some, None, option_and_then, option_map}
 use Rattle.std.specs.List.{AllZip, slice_get, slice_index_or}
@@ -7,24 +7,21 @@ use Rattle.std.specs.Cmp.{IsTotalOrder}
 use Rattle.std.proofs.lemmas.Cmp.{nat_cmp_total, nat_list_cmp_total, on_total, then_total}
 use Rattle.std.proofs.lemmas.Option.{same_Some, slice_get-get_or, slice_get-map, slice_get_within}
 use Rattle.std.proofs.lemmas.Slice.Zip.{AllZip-left, AllZip-right}
-use Rattle.pw_defs.specs.declared.design.Body.{Body}
-use Rattle.pw_defs.specs.declared.design.Body.TheVariants.{Module as ModuleBody, Cell as CellBody, Model as ModelBody}
-use Rattle.pw_defs.specs.declared.netlist.Inst.{Inst}
+use Rattle.pw_defs.specs.declared.design.Body.TheVariants.{Module as ModuleBody}
 use Rattle.pw_defs.specs.declared.netlist.Module.{Module}
 use Rattle.list_defs.specs.Orders.{AreAllRising}
-use Rattle.list_defs.proofs.Few.{place_of_member}
 use Rattle.list_defs.proofs.Members.{IsIn-slice_get}
 use Rattle.list_defs.proofs.OneList.{one_list}
 use Rattle.design_defs.specs.Bits.{IsSpot, Spot, spot_cmp}
 use Rattle.design_defs.specs.Hierarchy.{IsOfModule, Sources, Way, body_at, body_inside}
-use Rattle.design_defs.specs.Links.{End, IsLink, Link, links_in}
+use Rattle.design_defs.specs.Links.{End, Link, links_in}
 use Rattle.design_defs.specs.Links.{spot_of as end_spot}
 use Rattle.net_hierarchy.specs.Graph.{AreInstsApart}
 use Rattle.net_hierarchy.proofs.Ways.{inside_of_line}
-use Rattle.net_instances.specs.Instances.{HasChildAt, IsInstanceRow, child_in}
+use Rattle.net_instances.specs.Instances.{HasChildAt, child_in}
 use Rattle.net_instances.specs.declared.numbering.InstanceRow.{InstanceRow}
 use Rattle.net_instances.specs.declared.numbering.Instances.{Instances}
-use Rattle.net_places.specs.Nets.{AreOwnNets, IsLocalBit, LocalBit, all_spots, local_bits, local_cmp, spot_of}
+use Rattle.net_places.specs.Nets.{AreOwnNets, IsLocalBit, LocalBit, local_bits, local_cmp, spot_of}
 use Rattle.net_places.proofs.BitLaws.{local_bits_are}
 use Rattle.net_runs.specs.LocalNumbers.{IsBitNumber}
 use Rattle.net_links.specs.LocalLinks.{AreLocalLinks, IsLocalEnd, IsLocalLink, LocalEnd, LocalLink, locals}
@@ -32,9 +29,9 @@ use Rattle.net_links.specs.declared.rows.LinkRow.{LinkRow}
 use Rattle.net_bits.specs.Placed.{ArePlaced}
 use Rattle.net_bits.specs.declared.placed.Placed.{Placed}
 use Rattle.net_bits.proofs.Bodies.{body_there}
-use Rattle.net_bits.proofs.Spots.{bit_there, nets_at, nets_of, plan_at, same_spots, ways}
+use Rattle.net_bits.proofs.Spots.{bit_there, nets_at, nets_of, plan_at, same_spots}
 use Rattle.net_feeds.specs.declared.links.LinkAt.{LinkAt}
-use Rattle.net_feeds.specs.LinkNumbers.{AreAllLocal, HasSpotAt, IsLinkAt, IsLinkOf, bit_behind, end_number, first_bit_of, link_at, links_at, rows_of, rows_of_body, rows_of_row}
+use Rattle.net_feeds.specs.LinkNumbers.{HasSpotAt, IsLinkAt, IsLinkOf, bit_behind, end_number, first_bit_of, link_at, links_at, rows_of, rows_of_body, rows_of_row}
 
 local_total : IsTotalOrder local_cmp
 local_total = then_total (on_total (λ (x : LocalBit). x.0) nat_list_cmp_total) (on_total (λ (x : LocalBit). x.1) nat_cmp_total)

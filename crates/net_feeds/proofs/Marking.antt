@@ -1,17 +1,16 @@
 -- Marks of the bits that links feed, one link after the other.
-use Rattle.std.proofs.Common.{◌≡◌, ◌≢◌, ℕ, ◌+◌, ◌<◌, ◌⊎◌, inl, inr, Bool, true, false, List, [], ◌∷◌, ◌++◌, Some, None, get_or, length, replicate, set, take, append_assoc, refl, sym, ap, ◌∙◌, subst, arith}
+use Rattle.std.proofs.Common.{◌≡◌, ◌≢◌, ℕ, ◌+◌, ◌<◌, ◌⊎◌, inl, inr, Bool, true, false, List, [], ◌∷◌, ◌++◌, Some, None, get_or, length, take, append_assoc, refl, sym, ap, ◌∙◌, subst}
 use Rattle.std.specs.List.{slice_get}
-use Rattle.std.proofs.lemmas.List.{length-replicate, length-set, take_more}
-use Rattle.std.proofs.lemmas.Option.{same_Some, slice_get-get_or, slice_get_within}
+use Rattle.std.proofs.lemmas.List.{length-set, take_more}
+use Rattle.std.proofs.lemmas.Option.{same_Some, slice_get_within}
 use Rattle.design_rows.specs.declared.tables.Feed.{Feed}
-use Rattle.design_rows.specs.declared.tables.Feed.TheVariants.{Nothing}
 use Rattle.list_defs.specs.Members.{IsIn}
 use Rattle.list_defs.proofs.Longer.{slice_get-set_other, slice_get-set_same}
 use Rattle.list_defs.proofs.Members.{IsIn-append_cases, IsIn-append_left, IsIn-append_right, IsIn-slice_get}
-use Rattle.net_hierarchy.proofs.Places.{get_pushed, get_replicate, same_or_not}
+use Rattle.net_hierarchy.proofs.Places.{get_pushed, same_or_not}
 use Rattle.net_feeds.specs.declared.links.LinkAt.{LinkAt}
 use Rattle.net_feeds.specs.declared.marks.Marks.{Marks}
-use Rattle.net_feeds.specs.Marked.{AreApart, AreFed, AreMarks, IsFedByOne, IsMarked, IsTaken, feed_of}
+use Rattle.net_feeds.specs.Marked.{AreFed, IsFedByOne, IsMarked, IsTaken, feed_of}
 
 module _ (links : List LinkAt) (l : LinkAt) where
   last_or_before : (a : LinkAt) → IsIn a (links ++ l ∷ []) → IsIn a links ⊎ (a ≡ l)
@@ -141,21 +140,3 @@ pub fed_next : (given : List Bool) (before links : List LinkAt) (i : ℕ) (d : L
 fed_next given before links i d m within are =
     subst (λ (ls : List LinkAt). AreFed given ls m)
     (append_assoc before (take i links) (get_or links i d ∷ []) ∙ ap (λ rest. before ++ rest) (sym (take_more links i d within))) are
-
--- nothing is fed by no links
-pub fed_by_none : (given : List Bool) (m : Marks) → m.taken.items ≡ given → m.feeds.items ≡ replicate (length given) Nothing → AreFed given [] m
-fed_by_none given m taken feeds = record {
-  marks_are = record {
-    all_feeds = ap length feeds ∙ length-replicate (length given) Nothing;
-    all_taken = ap length taken;
-    feed = λ l bit there fed. absurd there;
-    nothing = λ bit within missing.
-        let short : bit < length (replicate (length given) Nothing) = omega (arith, within, length-replicate (length given) Nothing) in
-        let there : slice_get (replicate (length given) Nothing) bit ≡ Some (get_or (replicate (length given) Nothing) bit Nothing) = slice_get-get_or (replicate (length given) Nothing) bit Nothing short in
-        ap (λ (fs : List Feed). slice_get fs bit) feeds ∙ there ∙ ap Some (sym (get_replicate (length given) Nothing (get_or (replicate (length given) Nothing) bit Nothing) bit there));
-    kept = λ bit is. ap (λ (ts : List Bool). slice_get ts bit) taken ∙ is;
-    marked = λ l bit there fed. absurd there;
-    cause = λ bit is. inl (ap (λ (ts : List Bool). slice_get ts bit) (sym taken) ∙ is);
-  };
-  apart = record { once = λ i j bit a b at_i at_j fed_a fed_b. cc; free = λ a bit there fed is. absurd there };
-}

@@ -1,5 +1,5 @@
 -- Links to bits that are fed already, one link after the other.
-use Rattle.std.proofs.Common.{◌≡◌, ◌≢◌, ℕ, ◌<◌, ◌≤◌, ◌⊎◌, inl, inr, Bool, true, false, List, [], ◌∷◌, ◌++◌, Some, None, IsSome, length, max, min, set, refl, sym, ap, ◌∙◌, subst, arith}
+use Rattle.std.proofs.Common.{◌≡◌, ◌≢◌, ℕ, ◌<◌, ◌≤◌, ◌⊎◌, inl, inr, Bool, true, false, List, [], ◌∷◌, ◌++◌, Some, None, IsSome, length, max, min, refl, sym, ap, ◌∙◌, subst, arith}
 use Rattle.std.specs.List.{slice_get}
 use Rattle.std.specs.Prelude.{Option}
 use Rattle.std.proofs.lemmas.Bool.{cases_lt}
@@ -12,7 +12,7 @@ use Rattle.net_feeds.specs.declared.links.LinkAt.{LinkAt}
 use Rattle.net_feeds.specs.declared.seconds.Found.{Found}
 use Rattle.net_feeds.specs.declared.seconds.Seen.{Seen}
 use Rattle.net_feeds.specs.Marked.{IsMarked}
-use Rattle.net_feeds.specs.Seconds.{AreSeconds, AreSeen, IsFound, IsFoundAlso, IsFoundIf, IsKnown, IsOnLine, IsSecond, IsSeenOnce, earlier_line, later_line}
+use Rattle.net_feeds.specs.Seconds.{AreSeen, IsFound, IsFoundAlso, IsFoundIf, IsKnown, IsOnLine, IsSecond, IsSeenOnce, earlier_line, later_line}
 
 -- what is found on a line is found on all later ones
 pub found_later : (found : Found) (line more bit : ℕ) → IsFound found line bit → line ≤ more → IsFound found more bit

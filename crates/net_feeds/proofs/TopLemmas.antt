@@ -44,7 +44,7 @@ use Rattle.net_bits.specs.Placed.{ArePlaced}
 use Rattle.net_bits.specs.declared.placed.Placed.{Placed}
 use Rattle.net_bits.proofs.Spots.{bit_there, nets_at, net_bit_there, plan_at, same_spots}
 use Rattle.net_feeds.specs.Marked.{IsMarked}
-use Rattle.net_feeds.specs.TopInputs.{AreMarkedAlso, AreTopMarks, IsInputBit, IsInputBitOf, IsInputPort, IsWithin}
+use Rattle.net_feeds.specs.TopInputs.{AreMarkedAlso, AreTopMarks, IsInputBit, IsInputBitOf, IsInputPort}
 use Rattle.net_feeds.proofs.LinkLemmas.{mapped, module_there}
 
 -- the port of what a body owns

@@ -88,7 +88,13 @@ pub fn feeds_of(
 {
     let given = top_marks(alloc, placed, bits)?;
     let mut marks = first_marks(alloc, given.as_slice())?;
-    match feed_first(alloc, placed.instances, links, placed.instances.rows.len(), &mut marks)? {
+    match feed_first(
+        alloc,
+        placed.instances,
+        links,
+        placed.instances.rows.len(),
+        &mut marks,
+    )? {
         Some(inst) => {
             let at = fault_in(alloc, placed, links, given.as_slice(), inst)?;
             Err(DesignFault::N8(at))

@@ -61,12 +61,7 @@ fn find_marked(taken: &[bool], found: &mut Found, line: u32, bit: u32) -> Result
 }
 
 /// Finds a link whose bit an earlier one feeds, on the later of both lines.
-fn find_again(
-    low: Option<u32>,
-    found: &mut Found,
-    line: u32,
-    bit: u32,
-) -> Result<(), Memory>
+fn find_again(low: Option<u32>, found: &mut Found, line: u32, bit: u32) -> Result<(), Memory>
     ensures { IfOk result (λ _. IsFoundIf (IsSome low) (later_line low line) bit found.old found.new) }
 {
     match low {
@@ -131,11 +126,7 @@ fn unseen(alloc: Global, bits: usize) -> Result<Seen, Memory>
 
 /// The first line with a link to a bit that is marked or that another of the links on that line or an earlier one feeds,
 /// and all such bits on it.
-pub(crate) fn seconds_of(
-    alloc: Global,
-    taken: &[bool],
-    links: &[LinkAt],
-) -> Result<Found, Memory>
+pub(crate) fn seconds_of(alloc: Global, taken: &[bool], links: &[LinkAt]) -> Result<Found, Memory>
     ensures { IfOk result (λ found. AreSeconds taken.now links.now found) }
 {
     let mut seen = unseen(alloc, taken.len())?;

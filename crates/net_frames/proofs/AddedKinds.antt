@@ -1,5 +1,5 @@
 -- Rows that grow by kinds and by instances.
-use Rattle.std.proofs.Common.{◌≡◌, ℕ, ◌+◌, ◌-◌, ◌<◌, ◌≤◌, ◌⊎◌, inl, inr, List, [], ◌∷◌, ◌++◌, append-nil, Some, get_or, length, take, refl, sym, ap, ◌∙◌, subst, arith}
+use Rattle.std.proofs.Common.{◌≡◌, ℕ, ◌+◌, ◌-◌, ◌≤◌, ◌⊎◌, inl, inr, List, [], ◌∷◌, ◌++◌, append-nil, Some, get_or, length, take, refl, sym, ap, ◌∙◌, subst, arith}
 use Rattle.std.specs.List.{AllZip, slice_get, slice_range}
 use Rattle.std.proofs.lemmas.List.{length-append, take_more}
 use Rattle.std.proofs.lemmas.Option.{get_or_from_slice_get, none-some, slice_get_within}
@@ -21,7 +21,7 @@ use Rattle.module_rows.specs.declared.plain.Netlist.{Netlist}
 use Rattle.net_instances.specs.declared.numbering.InstanceRow.{InstanceRow}
 use Rattle.net_places.specs.declared.plans.Plans.{Plans}
 use Rattle.net_frames.specs.Framed.{AreFramed, AreKinds, HasInstance, HasKindOf, HaveSameParts, IsEmpty, IsKind, IsKindOf, IsRowOf}
-use Rattle.net_frames.specs.Places.{HasPlaces, HasSymbols, IsPlaceOf, bits_in, with_parts}
+use Rattle.net_frames.specs.Places.{HasPlaces, IsPlaceOf, bits_in, with_parts}
 use Rattle.net_frames.proofs.Growing.{no_parts, place_kept, symbols_kept}
 use Rattle.net_frames.proofs.ListLemmas.{zip_joined, zip_kept}
 

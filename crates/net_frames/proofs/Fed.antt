@@ -1,26 +1,22 @@
 -- What feeds the bits of rows is what feeds those of the hierarchy.
-use Rattle.std.proofs.Common.{◌≡◌, ℕ, ◌+◌, ◌-◌, ◌<◌, ◌≤◌, ◌&&◌, Bool, true, false, cond, List, [], ◌∷◌, Option, Some, None, get_or, length, map, option_and_then, option_map, refl, sym, ap, ◌∙◌, subst, arith}
+use Rattle.std.proofs.Common.{◌≡◌, ℕ, ◌&&◌, Bool, true, false, cond, List, [], ◌∷◌, Option, Some, None, map, option_and_then, option_map, refl, sym, ap, ◌∙◌}
 use Rattle.std.specs.List.{find, slice_get}
-use Rattle.std.proofs.lemmas.Option.{same_Some, slice_get-map}
+use Rattle.std.proofs.lemmas.Option.{same_Some}
 use Rattle.pw_defs.specs.declared.cells.Cell.{Cell}
-use Rattle.pw_defs.specs.declared.cells.Cells.{Cells}
 use Rattle.pw_defs.specs.declared.cells.Dir.{Dir}
 use Rattle.pw_defs.specs.declared.cells.Dir.TheVariants.{Input, Output}
 use Rattle.pw_defs.specs.declared.cells.Pin.{Pin}
-use Rattle.pw_defs.specs.declared.design.Bit.{Bit}
-use Rattle.pw_defs.specs.declared.design.Body.{Body}
-use Rattle.pw_defs.specs.declared.design.Body.TheVariants.{Module as ModuleBody, Cell as CellBody, Model as ModelBody}
+use Rattle.pw_defs.specs.declared.design.Body.TheVariants.{Cell as CellBody}
 use Rattle.pw_defs.specs.declared.design.PortBit.{PortBit}
 use Rattle.pw_defs.specs.declared.netlist.Port.{Port}
 use Rattle.list_defs.specs.Members.{place_of, same_name}
 use Rattle.list_defs.proofs.NameLemmas.{place_of-map, same_name-equal}
-use Rattle.design_defs.specs.Bits.{Spot, port_named, range_in}
+use Rattle.design_defs.specs.Bits.{port_named, range_in}
 use Rattle.design_defs.specs.Designs.{parts_of}
 use Rattle.design_defs.specs.Drivers.{is_interface_cell, passes_on_in}
 use Rattle.design_defs.specs.Hierarchy.{Sources, Way, body_at, number_named, ports_in}
 use Rattle.design_defs.specs.Links.{IsThrough}
 use Rattle.design_defs.specs.Ports.{dir_in, is_output, port_of_pin}
-use Rattle.design_defs.specs.Ranges.{width}
 use Rattle.design_laws.proofs.FirstFound.{at_place}
 
 -- both of two tests hold where their conjunction does

@@ -1,6 +1,6 @@
 -- Rows that grow by the places of bits.
-use Rattle.std.proofs.Common.{◌≡◌, ℕ, ◌+◌, ◌<◌, true, List, [], ◌∷◌, ◌++◌, append-nil, append_assoc, Option, Some, None, get_or, length, map, option_map, take, refl, sym, ap, ◌∙◌, subst, arith}
-use Rattle.std.specs.List.{AllZip, flat_map, range_with_len, slice_get}
+use Rattle.std.proofs.Common.{◌≡◌, ℕ, ◌+◌, true, List, [], ◌∷◌, ◌++◌, append-nil, append_assoc, Option, Some, length, map, option_map, take, refl, sym, ap, ◌∙◌, subst, arith}
+use Rattle.std.specs.List.{AllZip, range_with_len, slice_get}
 use Rattle.std.proofs.lemmas.Grind.{flat_map-append}
 use Rattle.std.proofs.lemmas.List.{map-append, take_more}
 use Rattle.std.proofs.lemmas.List.FromFn.{map-range_with_len_more}
@@ -13,7 +13,7 @@ use Rattle.net_places.specs.Plans.{port_names}
 use Rattle.pw_defs.specs.declared.design.Body.{Body}
 use Rattle.pw_defs.specs.declared.design.Body.TheVariants.{Module as ModuleBody, Cell as CellBody, Model as ModelBody}
 use Rattle.list_defs.proofs.Longer.{slice_get-append, slice_get_last}
-use Rattle.design_defs.specs.Ranges.{bit_name, width}
+use Rattle.design_defs.specs.Ranges.{bit_name}
 use Rattle.design_rows.specs.declared.tables.KindRow.{KindRow}
 use Rattle.design_rows.specs.declared.tables.PlaceRow.{PlaceRow}
 use Rattle.design_rows.specs.declared.tables.Rows.{Rows}

@@ -1,5 +1,5 @@
 -- Rows that have all instances and all bits are those of the design.
-use Rattle.std.proofs.Common.{◌≡◌, ◌≢◌, ℕ, zero, suc, ◌+◌, ◌-◌, ◌<◌, ◌≤◌, true, false, List, [], ◌∷◌, Option, Some, None, get_or, length, map, option_and_then, option_map, refl, sym, ap, ◌∙◌, subst, arith}
+use Rattle.std.proofs.Common.{◌≡◌, ℕ, zero, suc, ◌+◌, ◌-◌, ◌<◌, true, List, [], ◌∷◌, Option, Some, None, length, map, option_and_then, option_map, refl, sym, ap, ◌∙◌, subst, arith}
 use Rattle.std.specs.List.{AllZip, slice_get}
 use Rattle.std.proofs.lemmas.Option.{get_or_from_slice_get, same_Some, slice_get_within}
 use Rattle.std.proofs.lemmas.Slice.Zip.{AllZip-long}
@@ -9,26 +9,23 @@ use Rattle.pw_defs.specs.declared.design.Bit.{Bit}
 use Rattle.pw_defs.specs.declared.design.Body.{Body}
 use Rattle.pw_defs.specs.declared.design.Body.TheVariants.{Cell as CellBody}
 use Rattle.pw_defs.specs.declared.design.Feeder.TheVariants.{Through as ThroughFeeder}
-use Rattle.pw_defs.specs.declared.design.Instance.{Instance}
 use Rattle.pw_defs.specs.declared.design.PortBit.{PortBit}
 use Rattle.pw_defs.specs.declared.netlist.Port.{Port}
 use Rattle.list_defs.specs.Orders.{AreAllRising}
 use Rattle.list_defs.proofs.Members.{IsIn-slice_get}
-use Rattle.design_defs.specs.Bits.{HasSpotName, IsSpot, Spot, port_bit_of, range_in, range_of, spot_cmp}
+use Rattle.design_defs.specs.Bits.{HasSpotName, IsSpot, Spot, port_bit_of, range_in, spot_cmp}
 use Rattle.design_defs.specs.Designs.{IsBitAt, IsFeederOf, IsInstanceAt, IsMadeFrom, IsParentOf, IsPlainBit, begins_signal_at, head_of, parts_of, passes_on_at}
 use Rattle.design_defs.specs.Drivers.{asked_at, begins_signal_in, passes_on_in}
 use Rattle.design_defs.specs.Hierarchy.{Sources, Way, body_at, number_named, path, ports_in}
 use Rattle.design_defs.specs.Names.{joined}
-use Rattle.design_defs.specs.Ranges.{bit_name, width}
+use Rattle.design_defs.specs.Ranges.{width}
 use Rattle.design_defs.specs.Links.{IsThrough}
 use Rattle.design_laws.proofs.FirstFound.{right_of}
 use Rattle.design_rows.specs.declared.tables.Feed.{Feed}
-use Rattle.design_rows.specs.declared.tables.Feed.TheVariants.{Bit as BitFeed, Through, Driver, Constant, Nothing}
 use Rattle.design_rows.specs.declared.tables.PlaceRow.{PlaceRow}
 use Rattle.design_rows.specs.declared.tables.Rows.{Rows}
 use Rattle.design_rows.specs.Children.{HasNames}
-use Rattle.design_rows.specs.Sound.{Owns}
-use Rattle.design_rows.specs.View.{bit_at, design_of, driver_in, feed_at, feeder_in, inst_at, instance_at, kind_of, name_at, no_feed, owner_at, parent_in, path_at, place_at, place_name, place_of_bit, port_in, size}
+use Rattle.design_rows.specs.View.{bit_at, design_of, driver_in, feed_at, feeder_in, inst_at, instance_at, kind_of, name_at, no_feed, owner_at, parent_in, path_at, place_at, place_name, place_of_bit, port_in}
 use Rattle.design_rows.proofs.Owners.{owner_owns}
 use Rattle.design_rows.proofs.RowLemmas.{bit_get, instance_get, length_bits, length_instances}
 use Rattle.module_rows.specs.declared.plain.Netlist.{Netlist}

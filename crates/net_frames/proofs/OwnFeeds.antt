@@ -1,7 +1,6 @@
 -- What is read of a kind and its places is that of the instance.
-use Rattle.std.proofs.Common.{◌≡◌, ℕ, ◌+◌, ◌<◌, Option, Some, refl, sym, ap, ◌∙◌, subst}
+use Rattle.std.proofs.Common.{◌≡◌, ℕ, ◌+◌, ◌<◌, Option, Some, ap, ◌∙◌, subst}
 use Rattle.std.specs.Prelude.{IfSome}
-use Rattle.pw_defs.specs.declared.design.Body.{Body}
 use Rattle.design_rows.specs.declared.tables.InstanceRow.{InstanceRow as Row}
 use Rattle.design_rows.specs.declared.tables.KindRow.{KindRow}
 use Rattle.design_rows.specs.declared.tables.PlaceRow.{PlaceRow}

@@ -1,8 +1,7 @@
 -- Where signals begin and are passed on is the same for the sources and for rows that have their parts.
-use Rattle.std.proofs.Common.{◌≡◌, ℕ, ◌==◌, ◌&&◌, List, [], Option, Some, None, map, not, option_and_then, option_map, refl, sym, ap, ◌∙◌}
+use Rattle.std.proofs.Common.{◌≡◌, ℕ, ◌==◌, ◌&&◌, List, [], Option, Some, None, map, option_and_then, option_map, refl, ap, ◌∙◌}
 use Rattle.std.specs.List.{slice_get}
 use Rattle.std.proofs.lemmas.Option.{slice_get-map}
-use Rattle.pw_defs.specs.declared.cells.Cell.{Cell}
 use Rattle.pw_defs.specs.declared.cells.Cells.{Cells}
 use Rattle.pw_defs.specs.declared.cells.Dir.{Dir}
 use Rattle.pw_defs.specs.declared.design.Body.{Body}
@@ -15,7 +14,7 @@ use Rattle.pw_defs.specs.declared.netlist.Port.{Port}
 use Rattle.design_defs.specs.Designs.{head_of, parts_of}
 use Rattle.design_defs.specs.Drivers.{begins_signal_in, passes_on_in}
 use Rattle.design_defs.specs.Hierarchy.{Sources}
-use Rattle.design_defs.specs.Ports.{dir_in, is_input}
+use Rattle.design_defs.specs.Ports.{is_input}
 use Rattle.design_rows.specs.declared.tables.Rows.{Rows}
 use Rattle.design_rows.specs.View.{design_of}
 

@@ -1,11 +1,10 @@
 -- Where the instances and the bits of rows stand in a hierarchy.
-use Rattle.std.proofs.Common.{◌≡◌, ◌≢◌, ℕ, zero, suc, ◌+◌, ◌-◌, ◌<◌, ◌≤◌, ◌⊎◌, inl, inr, List, [], ◌∷◌, ◌++◌, Option, Some, None, get_or, length, map, option_and_then, option_map, take, refl, sym, ap, ◌∙◌, subst, arith}
-use Rattle.std.specs.List.{AllZip, flat_map, range_with_len, slice_get, slice_range, sum_by}
+use Rattle.std.proofs.Common.{◌≡◌, ℕ, zero, suc, ◌+◌, ◌<◌, ◌≤◌, ◌⊎◌, inl, inr, List, [], ◌∷◌, ◌++◌, Option, Some, None, get_or, length, map, option_and_then, option_map, take, refl, sym, ap, ◌∙◌, subst, arith}
+use Rattle.std.specs.List.{AllZip, range_with_len, slice_get, slice_range, sum_by}
 use Rattle.std.proofs.lemmas.Bool.{cases_order}
 use Rattle.std.proofs.lemmas.List.{length-map, map-append}
 use Rattle.std.proofs.lemmas.Option.{get_or_from_slice_get, same_Some, slice_get-get_or, slice_get-map, slice_get_within}
 use Rattle.std.proofs.lemmas.Slice.Zip.{AllZip-long}
-use Rattle.pw_defs.specs.declared.cells.Cell.{Cell}
 use Rattle.pw_defs.specs.declared.cells.Cells.{Cells}
 use Rattle.pw_defs.specs.declared.design.Body.{Body}
 use Rattle.pw_defs.specs.declared.design.Body.TheVariants.{Module as ModuleBody, Cell as CellBody, Model as ModelBody}
@@ -13,19 +12,17 @@ use Rattle.pw_defs.specs.declared.model.Model.{Model}
 use Rattle.pw_defs.specs.declared.netlist.Port.{Port}
 use Rattle.list_defs.specs.Members.{IsIn}
 use Rattle.list_defs.specs.Orders.{AreAllRising}
-use Rattle.list_defs.proofs.Few.{place_of_member}
 use Rattle.list_defs.proofs.Longer.{slice_get-append}
 use Rattle.list_defs.proofs.Members.{IsIn-flat_map_from, IsIn-map_from, IsIn-slice_get}
 use Rattle.list_defs.proofs.OneList.{one_list, one_place}
 use Rattle.design_defs.specs.Bits.{IsSpot, Spot, range_in, spot_cmp}
 use Rattle.design_defs.specs.Designs.{head_of}
-use Rattle.design_defs.specs.Hierarchy.{IsInstance, Sources, Way, body_at, number_named, path, ports_in, way_cmp}
+use Rattle.design_defs.specs.Hierarchy.{Sources, Way, body_at, number_named, path, ports_in, way_cmp}
 use Rattle.design_defs.specs.Names.{joined}
 use Rattle.design_defs.specs.Ranges.{width}
 use Rattle.design_defs.proofs.BitOrders.{spot_total, way_total}
-use Rattle.design_laws.proofs.FirstFound.{left_of, right_of}
+use Rattle.design_laws.proofs.FirstFound.{left_of}
 use Rattle.design_laws.proofs.Top.{lower_place, outer_before}
-use Rattle.design_rows.specs.declared.tables.InstanceRow.{InstanceRow as Row}
 use Rattle.design_rows.specs.declared.tables.KindRow.{KindRow}
 use Rattle.design_rows.specs.declared.tables.PlaceRow.{PlaceRow}
 use Rattle.design_rows.specs.declared.tables.Rows.{Rows}
@@ -36,11 +33,11 @@ use Rattle.design_rows.proofs.Paths.{path_top, path_under}
 use Rattle.module_rows.specs.declared.plain.Netlist.{Netlist}
 use Rattle.net_instances.specs.declared.numbering.InstanceRow.{InstanceRow}
 use Rattle.net_instances.specs.declared.numbering.Instances.{Instances}
-use Rattle.net_instances.specs.Instances.{AreInstances, IsInsideAt, IsInstanceRow, IsLineOf}
+use Rattle.net_instances.specs.Instances.{AreInstances, IsInsideAt, IsInstanceRow}
 use Rattle.net_places.specs.declared.plans.Plans.{Plans}
 use Rattle.net_places.specs.Gathered.{net_by}
-use Rattle.net_places.specs.Nets.{AreOwnNets, LocalBit, OwnNet, all_spots, bit_count, bit_of, bits_of_net, local_bits, own_net, spot_of}
-use Rattle.net_places.specs.Plans.{ArePlans, HasBody, IsOf, names_in, port_names, rows_at}
+use Rattle.net_places.specs.Nets.{AreOwnNets, LocalBit, OwnNet, all_spots, bit_count, bit_of, local_bits, own_net}
+use Rattle.net_places.specs.Plans.{ArePlans, IsOf, names_in, rows_at}
 use Rattle.net_places.proofs.BitLaws.{all_spots_are, local_bits_are, local_length, spot_numbers}
 use Rattle.net_sizes.specs.declared.sizes.Counts.{Counts}
 use Rattle.net_frames.specs.Feeding.{body_in, own_place}

@@ -8,14 +8,13 @@ ghost use Rattle.module_rows.specs.Leaves.{own_leaf};
 ghost use Rattle.module_rows.specs.Reads.{numbered_expr};
 ghost use Rattle.net_runs.specs.Known.{IsOpen};
 ghost use Rattle.net_runs.specs.Leaves.{StandsIn};
-ghost use Rattle.net_runs.specs.LocalNumbers.{run_bits};
 ghost use Rattle.net_widths.specs.Sides.{both_widths, AddsLeaves, IsLeafWidth, IsSide};
 
 use crate::names::name_of;
 use crate::refusals::refuse_unless;
 use module_rows::Modules;
 use net_least::OwnFault;
-use net_runs::{Lookup, Run};
+use net_runs::Lookup;
 use pw_defs::Memory;
 
 /// What an expression says: the first name that is refused, of those before it too, and its width where nothing is
@@ -26,16 +25,6 @@ pub(crate) struct Side {
     pub(crate) width: Option<u64>,
 }
 
-/// How many bits a run has.
-fn bits_of(run: Run) -> u64
-    ensures { result ≡ length (run_bits run) }
-{
-    match run {
-        Run::Bits { first: _, count } => count,
-        Run::Constants { count } => count,
-    }
-}
-
 /// How many bits a name or a constant of the module that is open has, where it isn't selected wrongly.
 fn leaf_width(lookup: &Lookup, leaf: u32) -> Option<u64>
     requires { leaf < length lookup.now.netlist.exprs }
@@ -43,7 +32,7 @@ fn leaf_width(lookup: &Lookup, leaf: u32) -> Option<u64>
         → IsLeafWidth m (own_leaf (numbered_expr lookup.now.netlist leaf)) result }
 {
     match lookup.leaf(leaf) {
-        Some(run) => Some(bits_of(run)),
+        Some(run) => Some(run.count()),
         None => None,
     }
 }

@@ -1,4 +1,4 @@
-use Rattle.std.proofs.Common.{sym, subst}
+use Rattle.std.proofs.Common.{subst}
 use Rattle.net_feeds.proofs.Marking.{fed_more, unfed_more}
 use Rattle.net_feeds.specs.Marked.{IsTaken}
 use Rattle.net_feeds.proofs.marks.feed.Goals as goal

@@ -17,5 +17,5 @@ returns-in_ok-push-2 c = found_same c.args.line c.args.bit c.args.found.now _ re
 pub returns-else-line-found-2 : goal.returns-else-line-found-2
 returns-else-line-found-2 c =
     found_behind c.args.line c.args.bit c.args.found.now (λ none.
-        let never : true ≡ false = sym (eq-eqb (length c.args.found.now.bits.items) 0 none) ∙ ap (λ (xs : List ℕ). length xs == 0) (sym c.as_slice.ensures.value) ∙ sym c.is_empty.ensures ∙ c.if-is_empty.false in cc)
+    let never : true ≡ false = sym (eq-eqb (length c.args.found.now.bits.items) 0 none) ∙ ap (λ (xs : List ℕ). length xs == 0) (sym c.as_slice.ensures.value) ∙ sym c.is_empty.ensures ∙ c.if-is_empty.false in cc)
     (omega (arith, c.if-line-found.false, c.if-line-found-2.false))

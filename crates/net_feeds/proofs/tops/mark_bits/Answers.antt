@@ -1,5 +1,4 @@
 use Rattle.std.proofs.Common.{arith}
-use Rattle.net_feeds.specs.TopInputs.{IsWithin}
 use Rattle.net_feeds.proofs.TopMarks.{also_none, bits_all, bits_more}
 use Rattle.net_feeds.proofs.tops.mark_bits.Goals as goal
 

@@ -1,6 +1,4 @@
-use Rattle.std.proofs.Common.{◌+◌, ℕ, subst, arith}
-use Rattle.design_rows.specs.View.{inst_at, size}
-use Rattle.net_frames.specs.Feeding.{AreFedBetween}
+use Rattle.design_rows.specs.View.{inst_at}
 use Rattle.net_frames.proofs.BitFeeds.{bits_more, no_bits}
 use Rattle.net_frames.proofs.feeding.feed_instance.Goals as goal
 

@@ -1,4 +1,4 @@
-use Rattle.std.proofs.Common.{[], List, take, refl, sym, ◌∙◌, subst, arith}
+use Rattle.std.proofs.Common.{List, refl, sym, ◌∙◌, subst, arith}
 use Rattle.std.proofs.lemmas.List.{take_all}
 use Rattle.net_instances.specs.declared.numbering.InstanceRow.{InstanceRow}
 use Rattle.net_frames.specs.Framed.{AreFramed}

@@ -1,5 +1,4 @@
-use Rattle.std.proofs.Common.{◌≡◌, ◌-◌, ℕ, length, ap, sym, ◌∙◌, subst}
-use Rattle.design_rows.specs.declared.tables.KindRow.{KindRow}
+use Rattle.std.proofs.Common.{◌≡◌, ◌-◌, length, ◌∙◌}
 use Rattle.design_rows.specs.Growth.{with_kind}
 use Rattle.net_frames.proofs.AddedKinds.{kind_added}
 use Rattle.net_frames.proofs.framing.add_kind.Goals as goal

@@ -1,4 +1,3 @@
-use Rattle.std.proofs.Common.{subst}
 use Rattle.net_frames.proofs.AddedKinds.{kind_known}
 use Rattle.net_frames.proofs.framing.kind_of.Goals as goal
 

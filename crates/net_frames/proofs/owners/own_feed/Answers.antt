@@ -1,6 +1,5 @@
-use Rattle.std.proofs.Common.{◌≡◌, Option, None, sym, ap, ◌∙◌}
+use Rattle.std.proofs.Common.{◌≡◌, None, sym, ap, ◌∙◌}
 use Rattle.std.proofs.lemmas.Option.{none-some}
-use Rattle.pw_defs.specs.declared.design.PortBit.{PortBit}
 use Rattle.design_rows.specs.View.{port_in}
 use Rattle.net_frames.specs.Feeding.{IsFeed, own_port}
 use Rattle.net_frames.proofs.OwnFeeds.{place_is}

@@ -1,4 +1,4 @@
-use Rattle.std.proofs.Common.{List, map, take, sym, ◌∙◌, subst, arith}
+use Rattle.std.proofs.Common.{List, map, sym, ◌∙◌, subst, arith}
 use Rattle.std.proofs.lemmas.List.{take_all}
 use Rattle.net_places.specs.declared.rows.NetRow.{NetRow}
 use Rattle.net_places.specs.Gathered.{net_by}

@@ -1,4 +1,4 @@
-use Rattle.std.proofs.Common.{[], ap, ◌∙◌, sym, arith}
+use Rattle.std.proofs.Common.{[], ap, ◌∙◌, arith}
 use Rattle.std.proofs.lemmas.List.{take_all}
 use Rattle.net_frames.specs.Places.{with_parts}
 use Rattle.net_frames.proofs.Growing.{no_parts, symbol_more}

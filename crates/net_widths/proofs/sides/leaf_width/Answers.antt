@@ -11,7 +11,7 @@ returns-in-Some c = λ s m opened stands.
     let e = numbered_expr c.args.lookup.now.netlist c.args.leaf in
     let run = subst (IsLeafRun s c.args.lookup.now.holder m e) c.in-Some.is (c.leaf.ensures s m opened stands) in
     let known = run_width s c.args.lookup.now.holder m e c.in-Some.run' run in
-    subst (λ count. IsLeafWidth m (own_leaf e) (Some count)) (sym c.bits_of.ensures) known
+    subst (λ count. IsLeafWidth m (own_leaf e) (Some count)) (sym c.count.ensures) known
 
 pub returns-in-None : goal.returns-in-None
 returns-in-None c = λ s m opened stands.

@@ -16,7 +16,7 @@ loop-net-preserved c =
     record {
       rows = c.add_net.ensures.rows;
       added = net_more c.args.modules.now c.args.rows.now c.loop-net.rows c.add_net.new.rows c.args.body rows c.loop-net.net c.in_ok-row.row
-          (sym c.net.ensures ∙ c.in_ok-row.ensures.ok_part) c.loop-net.invariant.added c.in_ok-add_net.ensures.added;
+          (sym c.net.ensures.net ∙ c.in_ok-row.ensures.ok_part) c.loop-net.invariant.added c.in_ok-add_net.ensures.added;
     }
 
 pub returns-clause-added : goal.returns-clause-added

@@ -1,12 +1,8 @@
 -- The links of the modules of instances are those of the hierarchy.
 use Rattle.std.proofs.Common.{◌≡◌, ℕ, ◌+◌, List, [], ◌∷◌, get_or, map, refl, sym, ap, ◌∙◌, subst, arith}
-use Rattle.std.specs.Option.{IsSomeAnd}
-use Rattle.std.specs.Prelude.{MatchOption, Option, Some, None, option_and_then, option_map}
-use Rattle.std.specs.List.{AllZip, slice_get, slice_index_or}
-use Rattle.std.specs.Cmp.{IsTotalOrder}
-use Rattle.std.proofs.lemmas.Cmp.{nat_cmp_total, nat_list_cmp_total, on_total, then_total}
+use Rattle.std.specs.Prelude.{Option, Some, None, option_and_then, option_map}
+use Rattle.std.specs.List.{slice_get, slice_index_or}
 use Rattle.std.proofs.lemmas.Option.{same_Some, slice_get-get_or, slice_get-map, slice_get_within}
-use Rattle.std.proofs.lemmas.Slice.Zip.{AllZip-left, AllZip-right}
 use Rattle.pw_defs.specs.declared.design.Body.TheVariants.{Module as ModuleBody}
 use Rattle.pw_defs.specs.declared.netlist.Module.{Module}
 use Rattle.list_defs.specs.Orders.{AreAllRising}
@@ -16,6 +12,8 @@ use Rattle.design_defs.specs.Bits.{IsSpot, Spot, spot_cmp}
 use Rattle.design_defs.specs.Hierarchy.{IsOfModule, Sources, Way, body_at, body_inside}
 use Rattle.design_defs.specs.Links.{End, Link, links_in}
 use Rattle.design_defs.specs.Links.{spot_of as end_spot}
+use Rattle.design_laws.proofs.FirstFound.{left_of, right_of}
+use Rattle.design_laws.proofs.SpotLists.{net_place_total}
 use Rattle.net_hierarchy.specs.Graph.{AreInstsApart}
 use Rattle.net_hierarchy.proofs.Ways.{inside_of_line}
 use Rattle.net_instances.specs.Instances.{HasChildAt, child_in}
@@ -32,22 +30,6 @@ use Rattle.net_bits.proofs.Bodies.{body_there}
 use Rattle.net_bits.proofs.Spots.{bit_there, nets_at, nets_of, plan_at, same_spots}
 use Rattle.net_feeds.specs.declared.links.LinkAt.{LinkAt}
 use Rattle.net_feeds.specs.LinkNumbers.{HasSpotAt, IsLinkAt, IsLinkOf, bit_behind, end_number, first_bit_of, link_at, links_at, rows_of, rows_of_body, rows_of_row}
-
-local_total : IsTotalOrder local_cmp
-local_total = then_total (on_total (λ (x : LocalBit). x.0) nat_list_cmp_total) (on_total (λ (x : LocalBit). x.1) nat_cmp_total)
-
--- what stands at a place of one of two lists that agree place by place
-other_of : {X : Type 0} (P : X → Type 0) (o : Option X) → IsSomeAnd o P → (x : X) × (o ≡ Some x) × P x
-other_of P None is = absurd is
-other_of P (Some x) is = (x, refl, is)
-
-zipped : {A B : Type 0} (R : A → B → Type 0) (xs : List A) (ys : List B) → AllZip R xs ys → (k : ℕ) (x : A) → slice_get xs k ≡ Some x → (y : B) × (slice_get ys k ≡ Some y) × R x y
-zipped R xs ys are k x there =
-    other_of (R x) (slice_get ys k) (subst (λ o. MatchOption o (Unit {0}) (λ z. IsSomeAnd (slice_get ys k) (R z))) there (AllZip-left R xs ys are k))
-
-zipped_back : {A B : Type 0} (R : A → B → Type 0) (xs : List A) (ys : List B) → AllZip R xs ys → (k : ℕ) (y : B) → slice_get ys k ≡ Some y → (x : A) × (slice_get xs k ≡ Some x) × R x y
-zipped_back R xs ys are k y there =
-    other_of (λ x. R x y) (slice_get xs k) (subst (λ o. MatchOption o (Unit {0}) (λ z. IsSomeAnd (slice_get xs k) (λ x. R x z))) there (AllZip-right R xs ys are k))
 
 -- what a mapped thing is mapped from
 pub mapped : {A B : Type 0} (f : A → B) (o : Option A) (y : B) → option_map f o ≡ Some y → (x : A) × (o ≡ Some x) × (f x ≡ y)
@@ -106,7 +88,7 @@ module _ (s : Sources) (p : Placed) (there : ArePlaced s p) (spots : List Spot) 
       owned = subst (AreOwnNets s row.body) (sym (ap (nets_of s p there) body)) (plan_at s p there way row.body body).nets
 
       same : number.bits ≡ local_bits (nets_at s p there way)
-      same = one_list local_cmp local_total (IsLocalBit s row.body) number.bits (local_bits (nets_at s p there way)) number.all (local_bits_are s row.body (nets_at s p there way) owned)
+      same = one_list local_cmp net_place_total (IsLocalBit s row.body) number.bits (local_bits (nets_at s p there way)) number.all (local_bits_are s row.body (nets_at s p there way) owned)
 
   -- an end of a link of the module of an instance
   module _ (apart : AreInstsApart s) (inst : ℕ) (way : Way) (at_way : slice_get ways_of inst ≡ Some way) (number : ℕ) (m : Module) (of_module : IsOfModule s way number m) where
@@ -172,7 +154,7 @@ module _ (s : Sources) (p : Placed) (there : ArePlaced s p) (spots : List Spot) 
               (sym (slice_get-map (link_at made inst) (locals (slice_index_or links number [])) k) ∙ ap (λ ls. slice_get ls k) (sym links_are) ∙ at)
 
           found : (x : Link) × (slice_get (links_in s m) k ≡ Some x) × IsLocalLink s number m x from.0
-          found = zipped_back (IsLocalLink s number m) (links_in s m) (locals (slice_index_or links number [])) local k from.0 from.1
+          found = left_of (IsLocalLink s number m) (links_in s m) (locals (slice_index_or links number [])) local k from.0 from.1
 
           link : Link
           link = found.0
@@ -187,7 +169,7 @@ module _ (s : Sources) (p : Placed) (there : ArePlaced s p) (spots : List Spot) 
       pub link_at_number : (k line : ℕ) (x : Spot) (source : Option Spot) (link : Link) → slice_get (links_in s m) k ≡ Some link → link.line ≡ line
           → end_spot way link.fed ≡ Some x → end_spot way link.source ≡ source → IsLinkAt spots ways_of links made way k line x source
       link_at_number k line x source link at on fed_is source_is =
-          let found = zipped (IsLocalLink s number m) (links_in s m) (locals (slice_index_or links number [])) local k link at in
+          let found = right_of (IsLocalLink s number m) (links_in s m) (locals (slice_index_or links number [])) local k link at in
           let l = found.0 in
           let is = found.2 in
           record {

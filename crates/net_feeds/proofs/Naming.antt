@@ -1,7 +1,6 @@
 -- The least name of some bits, one bit after the other.
 use Rattle.std.proofs.Common.{◌≡◌, ◌≢◌, ℕ, ◌+◌, ◌<◌, ◌⊎◌, inl, inr, List, [], ◌∷◌, ◌++◌, get_or, length, take, refl, sym, ap, ◌∙◌, subst}
 use Rattle.std.specs.Prelude.{Option, Some, None}
-use Rattle.std.specs.Cmp.{IsTotalOrder}
 use Rattle.std.specs.List.{slice_get}
 use Rattle.std.specs.declared.cmp.Ordering.TheVariants.{Less}
 use Rattle.std.proofs.lemmas.Cmp.{nat_list_cmp_total}
@@ -13,9 +12,6 @@ use Rattle.list_defs.proofs.Rising.{not_before_itself}
 use Rattle.design_defs.specs.Bits.{HasSpotName, Spot}
 use Rattle.design_defs.specs.Hierarchy.{Sources}
 use Rattle.net_feeds.specs.LeastNames.{IsLeastName, IsLeastOrNone, IsLesser, IsNameOf}
-
-total : IsTotalOrder name_cmp
-total = nat_list_cmp_total
 
 module _ (s : Sources) (spots : List Spot) (bits : List ℕ) (bit : ℕ) (next : List ℕ) (named : IsNameOf s spots bit next) where
   here : (other : ℕ) → IsIn other (bits ++ bit ∷ []) → IsIn other bits ⊎ (other ≡ bit)
@@ -32,7 +28,7 @@ module _ (s : Sources) (spots : List Spot) (bits : List ℕ) (bit : ℕ) (next :
 
   not_before_next : (b : ℕ) (x : Spot) (other : List ℕ) → b ≡ bit → slice_get spots b ≡ Some x → HasSpotName s x other → name_cmp other next ≢ Less
   not_before_next b x other same at is less =
-      not_before_itself name_cmp total next (subst (λ (n : List ℕ). name_cmp n next ≡ Less) (sym (is_next b x other same at is)) less)
+      not_before_itself name_cmp nat_list_cmp_total next (subst (λ (n : List ℕ). name_cmp n next ≡ Less) (sym (is_next b x other same at is)) less)
 
   least_one : (least : (b : ℕ) (x : Spot) (other : List ℕ) → IsIn b bits → slice_get spots b ≡ Some x → HasSpotName s x other → name_cmp other next ≢ Less)
       → IsLeastName s spots (bits ++ bit ∷ []) next
@@ -52,7 +48,7 @@ module _ (s : Sources) (spots : List Spot) (bits : List ℕ) (bit : ℕ) (next :
       subst (IsLeastName s spots (bits ++ bit ∷ [])) (sym is) (least_one (λ b x other there at named_so. absurd (none b there)))
   least_more (Some best) result (inl first) was =
       subst (IsLeastName s spots (bits ++ bit ∷ [])) (sym first.1)
-      (least_one (λ b x other there at named_so less. was.least b x other there at named_so (total.trans other next best less first.0)))
+      (least_one (λ b x other there at named_so less. was.least b x other there at named_so (nat_list_cmp_total.trans other next best less first.0)))
   least_more (Some best) result (inr later) was =
       subst (IsLeastName s spots (bits ++ bit ∷ [])) (sym later.1) (record {
         bit = was.bit;

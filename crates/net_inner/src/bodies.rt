@@ -72,7 +72,7 @@ fn add_net_at(
     index: &mut NameIndex,
 ) -> Result<bool, Memory>
     ensures { IfOk result (λ new. (s : Sources) → HasPlans s placed.now → HasBody s body
-         → (n : OwnNet) → slice_get (nets_in s placed.now body) net ≡ Some n → AddsNames (map (local_name s body) (bits_of_net n)) index.old index.new new) }
+        → (n : OwnNet) → slice_get (nets_in s placed.now body) net ≡ Some n → AddsNames (map (local_name s body) (bits_of_net n)) index.old index.new new) }
 {
     let Some(row) = placed.plans.net(body, net) else {
         return Err(Memory);
@@ -88,7 +88,7 @@ pub(crate) fn index_of(
     body: Body,
 ) -> Result<Option<NameIndex>, Memory>
     ensures { IfOk result (λ index. (s : Sources) → HasPlans s placed.now → HasBody s body
-         → MatchOption index (all_differ same_name (names_of_bits s placed.now body) ≡ false) (λ i. i ≡ names_of_bits s placed.now body)) }
+        → MatchOption index (all_differ same_name (names_of_bits s placed.now body) ≡ false) (λ i. i ≡ names_of_bits s placed.now body)) }
 {
     let mut index = NameIndex::new(alloc);
     for net in 0..placed.plans.nets(body) {

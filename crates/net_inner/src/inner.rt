@@ -36,11 +36,7 @@ fn no_sources(alloc: Global, count: u32) -> Result<Vec<Option<u32>>, Memory>
 }
 
 /// What a cell says of its bits, which have these names.
-fn cell_table(
-    alloc: Global,
-    index: &NameIndex,
-    cell: &Cell,
-) -> Result<List<Option<u32>>, Memory>
+fn cell_table(alloc: Global, index: &NameIndex, cell: &Cell) -> Result<List<Option<u32>>, Memory>
     ensures { IfOk result (λ sources. sources ≡ with_pairs index.now (pairs_of_cell cell.now) (replicate (length index.now) None)) }
 {
     let mut sources = no_sources(alloc, index.len())?;
@@ -70,11 +66,7 @@ fn cell_sources(
 }
 
 /// What a model says of its bits, which have these names.
-fn model_table(
-    alloc: Global,
-    index: &NameIndex,
-    model: &Model,
-) -> Result<List<Option<u32>>, Memory>
+fn model_table(alloc: Global, index: &NameIndex, model: &Model) -> Result<List<Option<u32>>, Memory>
     ensures { IfOk result (λ sources. sources ≡ with_pairs index.now (pairs_of_model model.now) (replicate (length index.now) None)) }
 {
     let mut sources = no_sources(alloc, index.len())?;

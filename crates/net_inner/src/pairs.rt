@@ -64,7 +64,12 @@ pub(crate) fn put_cell(index: &NameIndex, cell: &Cell, sources: &mut Vec<Option<
         return;
     }
     match through_pin(cell) {
-        Some(through) => put_pins(index, cell.pins.as_slice(), through.name.as_slice(), sources),
+        Some(through) => put_pins(
+            index,
+            cell.pins.as_slice(),
+            through.name.as_slice(),
+            sources,
+        ),
         None => {}
     }
 }
@@ -74,7 +79,12 @@ fn put_partial(index: &NameIndex, walk: &Partial, sources: &mut Vec<Option<u32>>
     ensures { sources.new.items ≡ with_pairs index.now (pairs_of_partial walk.now) sources.old.items }
 {
     match walk {
-        Partial::Feed { bit, from, .. } => put_pair(index, bit.as_slice(), from.as_slice(), sources),
+        Partial::Feed { bit, from, .. } => put_pair(
+            index,
+            bit.as_slice(),
+            from.as_slice(),
+            sources,
+        ),
         Partial::Drive { .. } | Partial::Quiet { .. } | Partial::Take { .. } => {}
     }
 }

@@ -60,7 +60,7 @@ fn add_module(
 /// The links that the lines of each module make.
 ///
 /// Each line is looked at once, also of modules that the top does not reach. A line whose ends are not there has no rows,
-/// or some of them.
+/// or some of them. Errors: want of memory alone.
 pub fn links_of(
     alloc: Global,
     modules: &Modules,

@@ -17,6 +17,7 @@ port_names = map (λ (p : Port). p.name)
 abbrev pub inst_names : Module → List (List ℕ)
 inst_names m = map (λ (i : Inst). i.name) m.insts
 
+-- the same where there is a module, and no names else
 abbrev pub names_or_none : Option Module → List (List ℕ)
 names_or_none None = []
 names_or_none (Some m) = inst_names m
@@ -31,7 +32,7 @@ insts_in s (ModelBody m) = []
 abbrev pub GoesOn : ℕ → List ℕ → List ℕ → Type 0
 GoesOn byte front name = (rest : List ℕ) × (name ≡ front ++ byte ∷ rest)
 
--- the port is a vector whose ends are numbers of 32 bits
+-- the ends of a range are numbers of 32 bits
 abbrev pub IsSmall : Option (ℕ × ℕ) → Type 0
 IsSmall None = Unit {0}
 IsSmall (Some r) = (r.0 < 2 ^ 32) × (r.1 < 2 ^ 32)

@@ -25,10 +25,11 @@ pub record IsVectorName (ports : List Port) (name : List ℕ) : Type 0 where
   pub ranged : p.range ≡ Some range
   pub same : p.name ≡ name
 
--- The name doesn't go on with this byte, at one place or anywhere, behind a name that bears the mark.
+-- the name doesn't go on with this byte, at a place, behind a name that bears the mark
 abbrev pub IsFreeAt : List (List ℕ) → List ℕ → ℕ → ℕ → List ℕ → ℕ → Type 0
 IsFreeAt symbols marks stamp byte name at = slice_get name at ≡ Some byte → IsMarked symbols marks stamp (take at name) → ⊥
 
+-- the same at each place
 abbrev pub IsFree : List (List ℕ) → List ℕ → ℕ → ℕ → List ℕ → Type 0
 IsFree symbols marks stamp byte name = (front : List ℕ) → GoesOn byte front name → IsMarked symbols marks stamp front → ⊥
 

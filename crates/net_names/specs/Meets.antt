@@ -28,6 +28,7 @@ by_order before next Less = next
 by_order before next Equal = before
 by_order before next Greater = before
 
+-- the first of what was met again before, if any, and the next
 abbrev pub first_of : Option NameAt → NameAt → NameAt
 first_of None next = next
 first_of (Some before) next = by_order before next (name_at_cmp next before)
@@ -48,6 +49,7 @@ met_all m (x ∷ xs) = met_all (met m x) xs
 abbrev pub bits_at : Place → List ℕ → ℕ × ℕ → ℕ → List NameAt
 bits_at place name range count = map (λ k. record { place = place; name = bit_name name (Some range) k }) (range_with_len 0 count)
 
+-- the names of all bits of a vector port; a scalar has none
 abbrev pub vector_at : Place → List ℕ → Option (ℕ × ℕ) → List NameAt
 vector_at place name None = []
 vector_at place name (Some range) = bits_at place name range (width (Some range))

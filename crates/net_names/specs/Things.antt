@@ -10,12 +10,13 @@ use Rattle.net_names.specs.declared.meeting.Meeting.{Meeting}
 use Rattle.net_names.specs.declared.meeting.NameAt.{NameAt}
 use Rattle.net_names.specs.declared.meeting.Place.{Place}
 
--- At one instance that itself comes first, then port by port, each before its bits.
+-- At one instance that itself comes first, then port by port, each before its bits: the number of the port, from 1 on.
 abbrev pub port_rank : Thing → ℕ
 port_rank (Thing.instance way) = 0
 port_rank (Thing.port way number) = suc number
 port_rank (Thing.vector_bit way number place) = suc number
 
+-- the place among the bits of its port, from 1 on, and 0 for what is no bit
 abbrev pub bit_rank : Thing → ℕ
 bit_rank (Thing.instance way) = 0
 bit_rank (Thing.port way number) = 0

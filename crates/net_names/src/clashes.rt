@@ -54,7 +54,7 @@ fn some_model_may(alloc: Global, models: &[Model]) -> Result<bool, Memory>
 }
 
 /// Whether the names of a hierarchy may make a joined name twice: `false` says that no two instances, ports or vector bits
-/// have one joined name.
+/// have one joined name, `true` says nothing.
 ///
 /// Each name is looked at once in its module. It is `true` where one goes on behind the name of an instance of its module
 /// with a slash, or behind that of a vector port with an opening bracket, where two ports of a model have one name, and

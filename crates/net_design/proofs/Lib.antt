@@ -1,0 +1,3 @@
+pub mod BitCounts
+pub mod FaultKinds
+pub mod SameDesign

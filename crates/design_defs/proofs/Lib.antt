@@ -7,6 +7,7 @@ pub mod BitOrders
 pub mod OneDesign
 pub mod Expressions
 pub mod Lookups
+pub mod BodiesThere
 pub mod FlatNetlists
 pub mod WorkedRing
 pub mod WorkedTwice

@@ -1,5 +1,5 @@
 -- The hierarchy of instances that modules, cells and models make below a top.
-use Rattle.std.specs.Prelude.{◌≡◌, ℕ, List, [], ◌∷◌, Option, Some, None, option_map, option_and_then, slice_get}
+use Rattle.std.specs.Prelude.{◌≡◌, ◌≢◌, ℕ, List, [], ◌∷◌, Option, Some, None, option_map, option_and_then, slice_get}
 use Rattle.std.specs.List.{find}
 use Rattle.std.specs.Option.{option_or}
 use Rattle.std.specs.Ordering.{on}
@@ -13,7 +13,7 @@ use Rattle.pw_defs.specs.declared.model.Model.{Model}
 use Rattle.pw_defs.specs.declared.netlist.Inst.{Inst}
 use Rattle.pw_defs.specs.declared.netlist.Module.{Module}
 use Rattle.pw_defs.specs.declared.netlist.Port.{Port}
-use Rattle.list_defs.specs.Members.{place_of, same_name}
+use Rattle.list_defs.specs.Members.{IsIn, place_of, same_name}
 use Rattle.list_defs.specs.Orders.{name_cmp}
 use Rattle.design_defs.specs.Names.{joined}
 use Rattle.design_defs.specs.Ports.{ports_among}
@@ -103,3 +103,11 @@ pub record IsOfModule (s : Sources) (way : Way) (number : ℕ) (m : Module) : Ty
 -- the ports of what a type is
 abbrev pub ports_in : Sources → Body → Option (List Port)
 ports_in s = ports_among s.modules s.cells s.models
+
+-- there is such a module, cell or model
+abbrev pub HasBody : Sources → Body → Type 0
+HasBody s b = (ports : List Port) × (ports_in s b ≡ Some ports)
+
+-- no module has an instance without a name
+abbrev pub AreNamedInsts : Sources → Type 0
+AreNamedInsts s = (n : ℕ) (m : Module) (i : Inst) → module_at s n ≡ Some m → IsIn i m.insts → i.name ≢ []

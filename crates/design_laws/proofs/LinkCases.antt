@@ -1,7 +1,6 @@
 -- The links of a module are made by connections to inputs, by connections to outputs, and by assignments.
-use Rattle.std.proofs.Common.{◌≡◌, ℕ, suc, ◌+◌, true, not, List, [], ◌∷◌, ◌++◌, Option, Some, None, option_and_then, option_map, map, slice_get, inl, inr, refl, sym, ap, ◌∙◌, subst, arith}
-use Rattle.std.specs.List.{cons_option, enumerate_from, filter_map, flat_map, list_any, zip}
-use Rattle.std.proofs.lemmas.Bool.{and_parts}
+use Rattle.std.proofs.Common.{◌≡◌, ℕ, suc, ◌+◌, true, List, [], ◌∷◌, ◌++◌, Option, Some, None, option_and_then, option_map, map, slice_get, inl, inr, refl, sym, ap, ◌∙◌, subst, arith}
+use Rattle.std.specs.List.{cons_option, enumerate_from, filter_map, flat_map, zip}
 use Rattle.std.proofs.lemmas.Option.{same_Some, slice_get-map}
 use Rattle.pw_defs.specs.declared.cells.Dir.{Dir}
 use Rattle.pw_defs.specs.declared.cells.Dir.TheVariants.{Input, Output}
@@ -16,7 +15,7 @@ use Rattle.pw_defs.specs.declared.netlist.Port.{Port}
 use Rattle.list_defs.specs.Members.{IsIn, all_differ, same_name}
 use Rattle.list_defs.proofs.Few.{place_of_member}
 use Rattle.list_defs.proofs.Members.{IsIn-append_cases, IsIn-flat_map_from}
-use Rattle.list_defs.proofs.NameLemmas.{place_of-own, same_name-equal, same_name-itself}
+use Rattle.list_defs.proofs.NameLemmas.{place_of-own, same_name-equal, same_name-itself, differ_behind}
 use Rattle.list_defs.proofs.Rising.{found_in}
 use Rattle.design_defs.specs.Bits.{Spot, port_named}
 use Rattle.design_defs.specs.DesignFaults.{HasPortAt}
@@ -95,10 +94,6 @@ link_by s m l there =
     of_conn i c in_m in_i (Some p) port (Some e) is within = of_port s m i c e p l in_m in_i is port p.dir refl within
 
 -- OWN NAMES of instances.
-pub differ_behind : (xs ys : List (List ℕ)) → all_differ same_name (xs ++ ys) ≡ true → all_differ same_name ys ≡ true
-differ_behind [] ys e = e
-differ_behind (x ∷ xs) ys e = differ_behind xs ys (and_parts (not (list_any (same_name x) (xs ++ ys))) (all_differ same_name (xs ++ ys)) e).1
-
 -- the line of the name of an instance is its own
 pub own_inst : (m : Module) (i : Inst) → AllDiffer (declared_names m) → IsIn i m.insts → inst_named m i.name ≡ Some i
 own_inst m i differ there =

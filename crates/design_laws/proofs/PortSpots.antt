@@ -4,40 +4,22 @@ use Rattle.std.specs.List.{find}
 use Rattle.std.proofs.lemmas.Option.{same_Some}
 use Rattle.pw_defs.specs.declared.design.Bit.{Bit}
 use Rattle.pw_defs.specs.declared.design.Body.{Body}
-use Rattle.pw_defs.specs.declared.design.Body.TheVariants.{Module as ModuleBody, Cell as CellBody, Model as ModelBody}
 use Rattle.pw_defs.specs.declared.design.Design.{Design}
 use Rattle.pw_defs.specs.declared.design.PortBit.{PortBit}
-use Rattle.pw_defs.specs.declared.netlist.Module.{Module}
 use Rattle.pw_defs.specs.declared.netlist.Port.{Port}
 use Rattle.list_defs.specs.Members.{place_of, same_name}
 use Rattle.list_defs.proofs.NameLemmas.{same_name-equal, same_name-itself}
-use Rattle.design_defs.specs.Bits.{IsSpot, Spot, port_named, port_number, range_in, range_of}
+use Rattle.design_defs.specs.Bits.{IsSpot, Spot, port_number, range_in, range_of}
 use Rattle.design_defs.specs.DesignFaults.{HasPortAt, IsFaultless}
 use Rattle.design_defs.specs.Designs.{IsBitAt, IsMadeFrom}
-use Rattle.design_defs.specs.Hierarchy.{Sources, Way, body_at, module_at, number_named, ports_in}
-use Rattle.design_defs.specs.Places.{net_range}
+use Rattle.design_defs.specs.Hierarchy.{Sources, Way, body_at, number_named, ports_in}
 use Rattle.design_defs.specs.Ports.{IsPortBit}
 use Rattle.design_defs.specs.Ranges.{width}
 use Rattle.design_defs.proofs.Lookups.{body_of_spot}
 use Rattle.design_laws.proofs.FirstFound.{at_place, own_place}
 use Rattle.design_laws.proofs.NoTwoNames.{one_port}
 use Rattle.design_laws.proofs.Numbered.{IsWayOf, number_of_port}
-
--- the range under the name of a port is that of the port
-found_range : (s : Sources) (body : Body) (ports : List Port) (net : List ℕ) (p : Port) → ports_in s body ≡ Some ports → port_named net ports ≡ Some p
-    → range_in s body net ≡ Some p.range
-found_range s (ModuleBody n) ports net p are found = by (module_at s n) are
-  where
-    of_net : (m : Module) → m.ports ≡ ports → net_range m net ≡ Some p.range
-    of_net m same = let first : find (λ (q : Port). same_name net q.name) m.ports ≡ Some p = ap (port_named net) same ∙ found in rw first refl
-
-    by : (o : Option Module) → option_map (λ (x : Module). x.ports) o ≡ Some ports → option_and_then (λ (x : Module). net_range x net) o ≡ Some p.range
-    by None h = cc
-    by (Some m) h = of_net m (same_Some m.ports ports h)
-found_range s (CellBody c) ports net p are found =
-    ap (λ o. option_map (λ (q : Port). q.range) (option_and_then (port_named net) o)) are ∙ ap (option_map (λ (q : Port). q.range)) found
-found_range s (ModelBody c) ports net p are found =
-    ap (λ o. option_map (λ (q : Port). q.range) (option_and_then (port_named net) o)) are ∙ ap (option_map (λ (q : Port). q.range)) found
+use Rattle.design_defs.proofs.BodiesThere.{found_range}
 
 -- where a bit of a port stands
 abbrev pub port_spot : Way → Port → ℕ → Spot

@@ -3,18 +3,17 @@ use Rattle.std.proofs.Common.{◌≡◌, ℕ, zero, suc, ◌<◌, List, [], ◌�
 use Rattle.std.specs.Cmp.{IsTotalOrder}
 use Rattle.std.specs.FinMap.{nat_cmp-IsAntisymmetric, slice_cmp-IsAntisymmetric}
 use Rattle.std.specs.Ordering.{nat_cmp, ordering_reverse}
-use Rattle.std.specs.declared.cmp.Ordering.{Ordering}
 use Rattle.std.specs.declared.cmp.Ordering.TheVariants.{Less, Equal, Greater}
 use Rattle.std.specs.Option.{option_map}
 use Rattle.std.proofs.lemmas.Bool.{cases_lt, cases_eq}
 use Rattle.std.proofs.lemmas.List.{append_cancel_left}
 use Rattle.std.proofs.lemmas.Option.{slice_get-get_or, slice_get_past}
 use Rattle.std.proofs.lemmas.Cmp.{nat_cmp_total, lists_total, on_total, then_total}
-use Rattle.list_defs.specs.Orders.{IsRising, name_cmp}
+use Rattle.list_defs.specs.Orders.{name_cmp}
 use Rattle.list_defs.proofs.Few.{place_of_member}
 use Rattle.list_defs.proofs.Members.{IsIn-slice_get}
 use Rattle.list_defs.proofs.OneList.{both_equal}
-use Rattle.list_defs.proofs.Rising.{each_in, not_before_itself, not_both_before}
+use Rattle.list_defs.proofs.Rising.{not_before_itself, not_both_before, rising_at}
 use Rattle.pw_defs.specs.declared.design.Instance.{Instance}
 use Rattle.design_defs.specs.Joined.{parent_of, path_of}
 use Rattle.design_defs.specs.Names.{joined}
@@ -27,16 +26,6 @@ use Rattle.design_rows.specs.View.{design_of, inst_at, instance_at, name_at, par
 
 pub key_total : IsTotalOrder key_cmp
 key_total = then_total (on_total (λ k. k.0) nat_cmp_total) (on_total (λ k. k.1) (lists_total nat_cmp_total))
-
--- of two places of a rising list the first has what comes before
-pub rising_at : {X : Type 0} (cmp : X → X → Ordering) (xs : List X) → IsRising cmp xs → (i j : ℕ) (x y : X) → i < j → slice_get xs i ≡ Some x → slice_get xs j ≡ Some y → cmp x y ≡ Less
-rising_at cmp [] rising i j x y before e f = cc
-rising_at cmp (z ∷ zs) rising zero zero x y before e f = absurd (omega arith)
-rising_at cmp (z ∷ zs) rising zero (suc j) x y before e f =
-    let same : z ≡ x = cc in
-    subst (λ w. cmp w y ≡ Less) same (each_in (λ w. cmp z w ≡ Less) zs y rising.0 (IsIn-slice_get zs j y f))
-rising_at cmp (z ∷ zs) rising (suc i) zero x y before e f = absurd (omega arith)
-rising_at cmp (z ∷ zs) rising (suc i) (suc j) x y before e f = rising_at cmp zs rising.1 i j x y (omega arith) e f
 
 pub child_key : (r : Rows) (outer : ℕ) (name : List ℕ) (n : ℕ) → IsChild r outer name n → key_of r n ≡ (outer, name)
 child_key r outer name n is = let inside = is.inside in let named = is.named in cc

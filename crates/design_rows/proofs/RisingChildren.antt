@@ -17,8 +17,8 @@ use Rattle.list_defs.specs.Members.{IsIn}
 use Rattle.list_defs.specs.Orders.{IsRising}
 use Rattle.list_defs.proofs.Few.{place_of_member}
 use Rattle.list_defs.proofs.Members.{IsIn-slice_get}
-use Rattle.list_defs.proofs.Rising.{each_in, not_before_itself}
-use Rattle.design_rows.proofs.ChildLemmas.{child_key, key_total, rising_at, same_key}
+use Rattle.list_defs.proofs.Rising.{each_in, not_before_itself, rising_at}
+use Rattle.design_rows.proofs.ChildLemmas.{child_key, key_total, same_key}
 use Rattle.design_rows.specs.declared.tables.Rows.{Rows}
 use Rattle.design_rows.specs.Children.{HasChildren, HasNameTwice, IsInner, child_cmp, key_cmp, key_of}
 use Rattle.design_rows.specs.Growth.{with_children}

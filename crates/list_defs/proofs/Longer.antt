@@ -15,6 +15,11 @@ slice_get_front [] ys i x inside e = absurd (omega arith)
 slice_get_front (y ∷ xs) ys zero x inside e = e
 slice_get_front (y ∷ xs) ys (suc i) x inside e = slice_get_front xs ys i x (omega arith) e
 
+pub slice_get_behind : {X : Type 0} (xs ys : List X) (i : ℕ) → slice_get (xs ++ ys) (length xs + i) ≡ slice_get ys i
+slice_get_behind [] ys i = ap (λ (k : ℕ). slice_get ys k) {x = 0 + i} {y = i} (omega arith)
+slice_get_behind (x ∷ xs) ys i =
+    ap (λ (k : ℕ). slice_get (x ∷ (xs ++ ys)) k) {x = length (x ∷ xs) + i} {y = suc (length xs + i)} (omega arith) ∙ slice_get_behind xs ys i
+
 pub slice_get_last : {X : Type 0} (xs : List X) (y : X) (i : ℕ) → i ≡ length xs → slice_get (xs ++ y ∷ []) i ≡ Some y
 slice_get_last [] y i e = ap (λ (k : ℕ). slice_get (y ∷ []) k) e
 slice_get_last (x ∷ xs) y zero e = absurd (omega arith)

@@ -1,6 +1,6 @@
 -- Lemmas on names, on places in a list, and on lists in which no two names are the same.
 use Rattle.std.proofs.Common.{◌≡◌, ℕ, zero, suc, Bool, true, false, not, ◌&&◌, ◌||◌, cond, List, [], ◌∷◌, ◌++◌, Option, None, Some, slice_get, refl, sym, ap, subst, ◌∙◌, inl, inr, is_some, ◌+◌, ◌<◌, ltb, length, map, arith}
-use Rattle.std.proofs.lemmas.Bool.{false≢true, true≢false, lt-ltb, le-ltb, ltb-true, ltb-false}
+use Rattle.std.proofs.lemmas.Bool.{and_parts, false≢true, true≢false, lt-ltb, le-ltb, ltb-true, ltb-false}
 use Rattle.std.proofs.lemmas.List.Folds.{list_any-append}
 use Rattle.std.specs.List.{list_any, position, position_or_len}
 use Rattle.std.specs.Option.{option_map}
@@ -176,3 +176,8 @@ all_differ-again (y ∷ ys) x more h = by (same_name x y) refl (all_differ-again
     by : (b : Bool) → same_name x y ≡ b → (list_any (same_name x) ys ≡ true → all_differ same_name (ys ++ x ∷ more) ≡ false) → (b || list_any (same_name x) ys) ≡ true → all_differ same_name (y ∷ (ys ++ x ∷ more)) ≡ false
     by true e rest h = ap (λ b. not b && all_differ same_name (ys ++ x ∷ more)) (again e)
     by false e rest h = and_false (not (list_any (same_name y) (ys ++ x ∷ more))) _ (rest h)
+
+-- of names that differ those behind a front differ
+pub differ_behind : (xs ys : List (List ℕ)) → all_differ same_name (xs ++ ys) ≡ true → all_differ same_name ys ≡ true
+differ_behind [] ys e = e
+differ_behind (x ∷ xs) ys e = differ_behind xs ys (and_parts (not (list_any (same_name x) (xs ++ ys))) (all_differ same_name (xs ++ ys)) e).1

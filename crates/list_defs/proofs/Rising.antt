@@ -1,12 +1,13 @@
 -- Lists in rising order: what keeps the order, and what stands first in them.
-use Rattle.std.proofs.Common.{◌≡◌, ◌≢◌, Bool, true, false, cond, List, [], ◌∷◌, ◌++◌, Some, filter, ◌⊎◌, inl, inr, subst, sym, ap, ◌∙◌, refl}
-use Rattle.std.specs.List.{AllByRecursion, find}
+use Rattle.std.proofs.Common.{◌≡◌, ◌≢◌, ◌<◌, ℕ, zero, suc, Bool, true, false, cond, List, [], ◌∷◌, ◌++◌, Some, filter, ◌⊎◌, inl, inr, subst, sym, ap, ◌∙◌, refl, arith}
+use Rattle.std.specs.List.{AllByRecursion, find, slice_get}
 use Rattle.std.specs.Cmp.{IsTotalOrder}
 use Rattle.std.specs.Ordering.{ordering_reverse}
 use Rattle.std.specs.declared.cmp.Ordering.{Ordering}
 use Rattle.std.specs.declared.cmp.Ordering.TheVariants.{Less, Greater}
 use Rattle.list_defs.specs.Members.{IsIn}
 use Rattle.list_defs.specs.Orders.{IsLeast, IsRising}
+use Rattle.list_defs.proofs.Members.{IsIn-slice_get}
 
 -- what holds of each of a list holds of each that a filter keeps
 pub each_kept : {X : Type 0} (P : X → Type 0) (p : X → Bool) (xs : List X) → AllByRecursion P xs → AllByRecursion P (filter p xs)
@@ -18,10 +19,30 @@ pub each_joined : {X : Type 0} (P : X → Type 0) (xs ys : List X) → AllByRecu
 each_joined P [] ys h k = k
 each_joined P (x ∷ xs) ys h k = (h.0, each_joined P xs ys h.1 k)
 
+-- what holds of each of two joined lists holds of each of either
+pub each_front : {X : Type 0} (P : X → Type 0) (xs ys : List X) → AllByRecursion P (xs ++ ys) → AllByRecursion P xs
+each_front P [] ys all = tt
+each_front P (x ∷ xs) ys all = (all.0, each_front P xs ys all.1)
+
+pub each_behind : {X : Type 0} (P : X → Type 0) (xs ys : List X) → AllByRecursion P (xs ++ ys) → AllByRecursion P ys
+each_behind P [] ys all = all
+each_behind P (x ∷ xs) ys all = each_behind P xs ys all.1
+
 -- what holds of each of a list holds of each one of it
 pub each_in : {X : Type 0} (P : X → Type 0) (xs : List X) (x : X) → AllByRecursion P xs → IsIn x xs → P x
 each_in P [] x h i = absurd i
 each_in P (y ∷ ys) x h i = elim i [ inl e ↦ subst P (sym e) h.0 | inr j ↦ each_in P ys x h.1 j ]
+
+-- of two places of a rising list the first has what comes before
+pub rising_at : {X : Type 0} (cmp : X → X → Ordering) (xs : List X) → IsRising cmp xs → (i j : ℕ) (x y : X) → i < j → slice_get xs i ≡ Some x → slice_get xs j ≡ Some y
+    → cmp x y ≡ Less
+rising_at cmp [] rising i j x y before e f = cc
+rising_at cmp (z ∷ zs) rising zero zero x y before e f = absurd (omega arith)
+rising_at cmp (z ∷ zs) rising zero (suc j) x y before e f =
+    let same : z ≡ x = cc in
+    subst (λ w. cmp w y ≡ Less) same (each_in (λ w. cmp z w ≡ Less) zs y rising.0 (IsIn-slice_get zs j y f))
+rising_at cmp (z ∷ zs) rising (suc i) zero x y before e f = absurd (omega arith)
+rising_at cmp (z ∷ zs) rising (suc i) (suc j) x y before e f = rising_at cmp zs rising.1 i j x y (omega arith) e f
 
 -- a filter keeps the order
 pub IsRising-filter : {X : Type 0} (cmp : X → X → Ordering) (p : X → Bool) (xs : List X) → IsRising cmp xs → IsRising cmp (filter p xs)

@@ -1,4 +1,3 @@
-pub mod Bodies
 pub mod Beginnings
 pub mod Spots
 pub mod Spellings

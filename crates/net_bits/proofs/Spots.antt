@@ -1,10 +1,9 @@
 -- Where the bit of a number stands, by the instance and the net that begin last at or before it.
-use Rattle.std.proofs.Common.{◌≡◌, ℕ, ◌+◌, ◌-◌, ◌<◌, ◌≤◌, List, [], ◌∷◌, Option, None, Some, get_or, length, map, option_map, option_and_then, slice_get, take, refl, sym, ap, ◌∙◌, subst, arith}
+use Rattle.std.proofs.Common.{◌≡◌, ℕ, ◌+◌, ◌-◌, ◌<◌, ◌≤◌, List, [], Option, None, Some, get_or, length, map, option_map, option_and_then, slice_get, take, refl, sym, ap, ◌∙◌, subst, arith}
 use Rattle.std.specs.List.{sum_by}
 use Rattle.std.proofs.lemmas.List.{take-map, take_all}
 use Rattle.std.proofs.lemmas.List.Concat.{length-flat_map}
 use Rattle.std.proofs.lemmas.List.Elements.{All-get_or}
-use Rattle.std.proofs.lemmas.List.Sums.{sum_by-cons}
 use Rattle.std.proofs.lemmas.Option.{get_or_from_slice_get, same_Some, slice_get-get_or, slice_get-map, slice_get_within}
 use Rattle.pw_defs.specs.declared.design.Body.{Body}
 use Rattle.pw_defs.specs.declared.netlist.Port.{Port}
@@ -23,20 +22,13 @@ use Rattle.net_places.specs.Nets.{AreOwnNets, LocalBit, OwnNet, all_spots, bit_c
 use Rattle.net_places.specs.Plans.{names_in, rows_at}
 use Rattle.net_places.specs.Tables.{IsPlanOf, bits_in}
 use Rattle.net_places.specs.declared.rows.NetRow.{NetRow}
-use Rattle.net_places.proofs.BitLaws.{all_spots_are, bit_numbers, local_length, spot_numbers}
+use Rattle.net_places.proofs.BitLaws.{all_spots_are, bit_numbers, local_length, spot_numbers, row_counts}
 use Rattle.std.proofs.lemmas.List.{length-map}
 use Rattle.net_bits.specs.Placed.{ArePlaced}
 use Rattle.net_bits.specs.Standing.{IsLastBegun, IsPlaceOf}
 use Rattle.net_bits.specs.declared.placed.Placed.{Placed}
 use Rattle.net_bits.proofs.Beginnings.{ends_behind, sums_alike}
-use Rattle.net_bits.proofs.Bodies.{body_there}
-
--- nets have as many bits as their rows
-row_counts : (names : List (List ℕ)) (rows : List NetRow) → bit_count (map (net_by names) rows) ≡ bits_in rows
-row_counts names [] = refl
-row_counts names (row ∷ rows) =
-    sum_by-cons (λ (n : OwnNet). width n.range) (net_by names row) (map (net_by names) rows) ∙ ap (λ (n : ℕ). width row.range + n) (row_counts names rows)
-    ∙ sym (sum_by-cons (λ (r : NetRow). width r.range) row rows)
+use Rattle.design_defs.proofs.BodiesThere.{body_there}
 
 -- what a body owns under a name has the range that it has there
 pub range_owned : (s : Sources) (b : Body) (n : OwnNet) → own_net s b n.name ≡ Some n → range_in s b n.name ≡ Some n.range

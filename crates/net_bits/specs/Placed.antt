@@ -1,10 +1,10 @@
 -- Modules, cells and models with where their bits are, and all instances by their numbers.
 use Rattle.std.specs.Prelude.{◌≡◌}
 use Rattle.pw_defs.specs.declared.design.Body.{Body}
-use Rattle.design_defs.specs.Hierarchy.{Sources}
+use Rattle.design_defs.specs.Hierarchy.{Sources, HasBody}
 use Rattle.net_sizes.specs.Sizes.{count_in}
 use Rattle.net_sizes.specs.declared.sizes.Counts.{Counts}
-use Rattle.net_places.specs.Plans.{ArePlans, HasBody, IsOf, rows_at}
+use Rattle.net_places.specs.Plans.{ArePlans, IsOf, rows_at}
 use Rattle.net_places.specs.Tables.{bits_in}
 use Rattle.net_places.specs.declared.plans.Plans.{Plans}
 use Rattle.net_instances.specs.Instances.{AreInstances}

@@ -2,7 +2,7 @@
 ghost use Rattle.std.specs.Prelude.{◌≡◌, IfErr, IfOk, OnOk};
 ghost use Rattle.design_defs.specs.DesignFaults.{FaultKind, IsDesignOf, sources};
 ghost use Rattle.design_defs.specs.Designs.{IsMadeFrom};
-ghost use Rattle.design_defs.specs.Hierarchy.{Sources};
+ghost use Rattle.design_defs.specs.Hierarchy.{Sources, AreNamedInsts};
 ghost use Rattle.design_defs.specs.Inputs.{AreReadSources};
 ghost use Rattle.design_defs.specs.Sound.{IsSoundDesign};
 ghost use Rattle.design_laws.specs.FullNames.{HaveFullNames};
@@ -11,7 +11,7 @@ ghost use Rattle.design_rows.specs.Sound.{AreRows};
 ghost use Rattle.design_rows.specs.View.{design_of};
 ghost use Rattle.net_design.specs.Stages.{AreParts, HaveTargets};
 ghost use Rattle.net_hierarchy.specs.Firstness.{HasNoneBefore, IsCause};
-ghost use Rattle.net_instances.specs.Instances.{AreInstances, AreNamedInsts};
+ghost use Rattle.net_instances.specs.Instances.{AreInstances};
 ghost use Rattle.net_outline.specs.Outline.{IsOutline};
 ghost use Rattle.net_places.specs.Plans.{IsOf};
 ghost use Rattle.net_sizes.specs.declared.sizes.Counts.{Counts};

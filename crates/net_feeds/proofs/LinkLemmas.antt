@@ -26,10 +26,10 @@ use Rattle.net_links.specs.LocalLinks.{AreLocalLinks, IsLocalEnd, IsLocalLink, L
 use Rattle.net_links.specs.declared.rows.LinkRow.{LinkRow}
 use Rattle.net_bits.specs.Placed.{ArePlaced}
 use Rattle.net_bits.specs.declared.placed.Placed.{Placed}
-use Rattle.net_bits.proofs.Bodies.{body_there}
 use Rattle.net_bits.proofs.Spots.{bit_there, nets_at, nets_of, plan_at, same_spots}
 use Rattle.net_feeds.specs.declared.links.LinkAt.{LinkAt}
 use Rattle.net_feeds.specs.LinkNumbers.{HasSpotAt, IsLinkAt, IsLinkOf, bit_behind, end_number, first_bit_of, link_at, links_at, rows_of, rows_of_body, rows_of_row}
+use Rattle.design_defs.proofs.BodiesThere.{body_there}
 
 -- what a mapped thing is mapped from
 pub mapped : {A B : Type 0} (f : A → B) (o : Option A) (y : B) → option_map f o ≡ Some y → (x : A) × (o ≡ Some x) × (f x ≡ y)

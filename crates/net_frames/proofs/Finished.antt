@@ -7,7 +7,7 @@ use Rattle.pw_defs.specs.declared.netlist.Module.{Module}
 use Rattle.list_defs.specs.Orders.{AreAllRising}
 use Rattle.design_defs.specs.Bits.{IsSpot, Spot, spot_cmp}
 use Rattle.design_defs.specs.Designs.{IsMadeFrom, head_of}
-use Rattle.design_defs.specs.Hierarchy.{Sources}
+use Rattle.design_defs.specs.Hierarchy.{Sources, AreNamedInsts}
 use Rattle.design_rows.specs.declared.tables.Feed.{Feed}
 use Rattle.design_rows.specs.declared.tables.Rows.{Rows}
 use Rattle.design_rows.specs.Children.{HasNames}
@@ -17,7 +17,7 @@ use Rattle.module_rows.specs.declared.plain.Netlist.{Netlist}
 use Rattle.net_instances.specs.declared.numbering.InstanceRow.{InstanceRow}
 use Rattle.net_feeds.specs.Feeds.{AreFedSo}
 use Rattle.net_instances.specs.declared.numbering.Instances.{Instances}
-use Rattle.net_instances.specs.Instances.{AreInstances, AreNamedInsts}
+use Rattle.net_instances.specs.Instances.{AreInstances}
 use Rattle.net_places.specs.declared.plans.Plans.{Plans}
 use Rattle.net_places.specs.Plans.{ArePlans, IsOf}
 use Rattle.net_sizes.specs.declared.sizes.Counts.{Counts}

@@ -3,7 +3,6 @@ pub mod Growing
 pub mod AddedKinds
 pub mod BitFeeds
 pub mod OwnFeeds
-pub mod Bodies
 pub mod Signals
 pub mod Standing
 pub mod Fed

@@ -16,7 +16,7 @@ use Rattle.list_defs.proofs.Members.{IsIn-slice_get}
 use Rattle.design_defs.specs.Bits.{HasSpotName, IsSpot, Spot, port_bit_of, range_in, spot_cmp}
 use Rattle.design_defs.specs.Designs.{IsBitAt, IsFeederOf, IsInstanceAt, IsMadeFrom, IsParentOf, IsPlainBit, begins_signal_at, head_of, parts_of, passes_on_at}
 use Rattle.design_defs.specs.Drivers.{asked_at, begins_signal_in, passes_on_in}
-use Rattle.design_defs.specs.Hierarchy.{Sources, Way, body_at, number_named, path, ports_in}
+use Rattle.design_defs.specs.Hierarchy.{Sources, Way, body_at, number_named, path, ports_in, AreNamedInsts}
 use Rattle.design_defs.specs.Names.{joined}
 use Rattle.design_defs.specs.Ranges.{width}
 use Rattle.design_defs.specs.Links.{IsThrough}
@@ -32,7 +32,7 @@ use Rattle.module_rows.specs.declared.plain.Netlist.{Netlist}
 use Rattle.net_feeds.specs.Feeds.{AreFedSo, IsFedSo}
 use Rattle.net_instances.specs.declared.numbering.InstanceRow.{InstanceRow}
 use Rattle.net_instances.specs.declared.numbering.Instances.{Instances}
-use Rattle.net_instances.specs.Instances.{AreInstances, AreNamedInsts, IsInsideAt}
+use Rattle.net_instances.specs.Instances.{AreInstances, IsInsideAt}
 use Rattle.net_places.specs.declared.plans.Plans.{Plans}
 use Rattle.net_places.specs.Plans.{ArePlans, IsOf}
 use Rattle.net_sizes.specs.declared.sizes.Counts.{Counts}

@@ -43,8 +43,8 @@ use Rattle.net_sizes.specs.declared.sizes.Counts.{Counts}
 use Rattle.net_frames.specs.Feeding.{body_in, own_place}
 use Rattle.net_frames.specs.Framed.{AreFramed, IsRowOf}
 use Rattle.net_frames.specs.Places.{IsPlaceOf, NetBit, bits_in, bits_of_nets, net_bits, spellings}
-use Rattle.net_frames.proofs.Bodies.{body_there}
 use Rattle.net_frames.proofs.ListLemmas.{get_part, part_length, sums_by_place}
+use Rattle.design_defs.proofs.BodiesThere.{body_there}
 
 -- NETS with their bits, by names and places
 abbrev local_of : NetBit → LocalBit

@@ -2,7 +2,7 @@
 ghost use Rattle.std.specs.Prelude.{◌≡◌, [], List, IfOk, length};
 ghost use Rattle.design_defs.specs.Bits.{IsSpot, Spot, spot_cmp};
 ghost use Rattle.design_defs.specs.Designs.{IsMadeFrom};
-ghost use Rattle.design_defs.specs.Hierarchy.{Sources};
+ghost use Rattle.design_defs.specs.Hierarchy.{Sources, AreNamedInsts};
 ghost use Rattle.design_rows.specs.Children.{HasNames};
 ghost use Rattle.design_rows.specs.Sound.{AreRows};
 ghost use Rattle.design_rows.specs.View.{design_of};
@@ -10,7 +10,7 @@ ghost use Rattle.list_defs.specs.Orders.{AreAllRising};
 ghost use Rattle.net_feeds.specs.Feeds.{AreFedSo};
 ghost use Rattle.net_frames.specs.Framed.{IsEmpty};
 ghost use Rattle.net_frames.specs.Places.{with_parts};
-ghost use Rattle.net_instances.specs.Instances.{AreInstances, AreNamedInsts};
+ghost use Rattle.net_instances.specs.Instances.{AreInstances};
 ghost use Rattle.net_places.specs.Plans.{ArePlans, IsOf};
 ghost use Rattle.net_sizes.specs.declared.sizes.Counts.{Counts};
 

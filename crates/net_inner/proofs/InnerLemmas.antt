@@ -1,28 +1,23 @@
 -- The tables of all cells and models say what feeds the bits of instances.
-use Rattle.std.proofs.Common.{◌≡◌, ℕ, zero, suc, ◌+◌, ◌<◌, ◌≤◌, ◌⊎◌, inl, inr, Bool, true, false, List, [], ◌∷◌, ◌++◌, Option, None, Some, get_or, length, map, option_map, replicate, set, take, slice_get, refl, sym, ap, ◌∙◌, subst, arith}
+use Rattle.std.proofs.Common.{◌≡◌, ℕ, ◌+◌, ◌<◌, ◌≤◌, ◌⊎◌, inl, inr, Bool, true, List, [], ◌∷◌, ◌++◌, Option, None, Some, get_or, length, map, option_map, slice_get, refl, sym, ap, ◌∙◌, subst, arith}
 use Rattle.std.specs.Option.{MatchOption}
-use Rattle.std.proofs.lemmas.Bool.{cases_lt, cases_order}
-use Rattle.std.proofs.lemmas.List.{length_push, length-set, take_more}
+use Rattle.std.proofs.lemmas.Bool.{cases_lt}
 use Rattle.std.proofs.lemmas.Option.{none-some, same_Some, slice_get-get_or, slice_get_within}
 use Rattle.pw_defs.specs.declared.cells.Cell.{Cell}
 use Rattle.pw_defs.specs.declared.cells.Cells.{Cells}
 use Rattle.pw_defs.specs.declared.design.Body.{Body}
 use Rattle.pw_defs.specs.declared.design.Body.TheVariants.{Module as ModuleBody, Cell as CellBody, Model as ModelBody}
 use Rattle.pw_defs.specs.declared.model.Model.{Model}
-use Rattle.pw_defs.specs.declared.netlist.Port.{Port}
 use Rattle.list_defs.specs.Members.{all_differ, same_name}
-use Rattle.list_defs.proofs.Longer.{slice_get-append, slice_get-set_other, slice_get-set_same, slice_get_front, slice_get_last}
-use Rattle.design_defs.specs.Hierarchy.{Sources, Way, body_at}
+use Rattle.list_defs.proofs.Longer.{slice_get-append, slice_get_last}
+use Rattle.design_defs.specs.Hierarchy.{Sources, Way, HasBody}
 use Rattle.design_defs.specs.Ports.{port_of_pin}
 use Rattle.net_bits.specs.Placed.{ArePlaced}
 use Rattle.net_bits.specs.declared.placed.Placed.{Placed}
-use Rattle.net_bits.proofs.Bodies.{body_there}
-use Rattle.net_instances.specs.declared.numbering.InstanceRow.{InstanceRow}
-use Rattle.net_places.specs.Plans.{HasBody}
-use Rattle.net_inner.specs.Inside.{AreInnerSources, AreSources, AreUsed, HasPlans, HasSources, MarksModel, in_row, names_of_bits, source_in}
-use Rattle.net_inner.specs.Pairs.{pairs_of, with_pairs}
-use Rattle.net_inner.specs.declared.inner.Inner.{Inner}
+use Rattle.net_inner.specs.Inside.{AreInnerSources, AreSources, AreUsed, HasSources, in_row, names_of_bits, source_in}
+use Rattle.net_inner.specs.Pairs.{pairs_of}
 use Rattle.net_inner.proofs.PairLemmas.{put_down}
+use Rattle.design_defs.proofs.BodiesThere.{body_there}
 
 -- what is said of what may be there
 pub if_none : {A : Type 0} (P : Type 0) (Q : A → Type 0) (o : Option A) → MatchOption o P Q → o ≡ None → P

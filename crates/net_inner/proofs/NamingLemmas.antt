@@ -1,23 +1,23 @@
 -- Names that are added to others one list after the other.
-use Rattle.std.proofs.Common.{◌≡◌, ℕ, zero, suc, ◌+◌, ◌-◌, ◌<◌, ◌≤◌, Bool, true, false, not, List, [], ◌∷◌, ◌++◌, Option, None, Some, get_or, length, map, option_map, slice_get, take, drop, refl, sym, ap, ◌∙◌, subst, arith, append_assoc}
+use Rattle.std.proofs.Common.{◌≡◌, ℕ, zero, suc, ◌+◌, ◌-◌, ◌<◌, Bool, true, false, not, List, [], ◌∷◌, ◌++◌, None, Some, get_or, length, map, option_map, slice_get, take, drop, refl, sym, ap, ◌∙◌, subst, arith, append_assoc}
 use Rattle.std.specs.Prelude.{MatchBool}
-use Rattle.std.specs.List.{flat_map, list_any, range_with_len}
+use Rattle.std.specs.List.{list_any, range_with_len}
 use Rattle.std.proofs.lemmas.Grind.{flat_map-append}
 use Rattle.std.proofs.lemmas.List.{append-nil, length-map, take-append-drop, take_more}
 use Rattle.std.proofs.lemmas.List.Elements.{All-get_or}
 use Rattle.std.proofs.lemmas.Option.{get_or_from_slice_get, same_Some, slice_get-get_or, slice_get-map, slice_get_within}
 use Rattle.pw_defs.specs.declared.design.Body.{Body}
 use Rattle.list_defs.specs.Members.{all_differ, same_name}
-use Rattle.list_defs.proofs.Members.{IsIn-map, IsIn-slice_get}
+use Rattle.list_defs.proofs.Members.{IsIn-slice_get}
 use Rattle.list_defs.proofs.NameLemmas.{all_differ-again}
 use Rattle.design_defs.specs.Bits.{range_in}
-use Rattle.design_defs.specs.Hierarchy.{Sources}
+use Rattle.design_defs.specs.Hierarchy.{Sources, HasBody}
 use Rattle.design_defs.specs.Ranges.{bit_name, width}
 use Rattle.net_bits.specs.declared.placed.Placed.{Placed}
 use Rattle.net_bits.proofs.Spots.{range_owned}
 use Rattle.net_places.specs.Gathered.{net_by}
 use Rattle.net_places.specs.Nets.{LocalBit, OwnNet, bit_of, bits_of_net, local_bits, own_net}
-use Rattle.net_places.specs.Plans.{HasBody, names_in, rows_at}
+use Rattle.net_places.specs.Plans.{names_in, rows_at}
 use Rattle.net_places.specs.Tables.{IsPlanOf}
 use Rattle.net_places.specs.declared.rows.NetRow.{NetRow}
 use Rattle.net_inner.specs.Inside.{HasPlans, local_name, named_in, nets_in}

@@ -1,10 +1,10 @@
 //! The names of the bits of a body.
 ghost use Rattle.std.specs.Prelude.{◌≡◌, ◌≤◌, ◌++◌, ◌∷◌, [], ℕ, false, List, IfOk, MatchBool, MatchOption, map, slice_get};
-ghost use Rattle.design_defs.specs.Hierarchy.{Sources};
+ghost use Rattle.design_defs.specs.Hierarchy.{Sources, HasBody};
 ghost use Rattle.design_defs.specs.Ranges.{bit_name, width};
 ghost use Rattle.list_defs.specs.Members.{all_differ, same_name};
 ghost use Rattle.net_places.specs.Nets.{OwnNet, bits_of_net};
-ghost use Rattle.net_places.specs.Plans.{HasBody, names_in};
+ghost use Rattle.net_places.specs.Plans.{names_in};
 ghost use Rattle.net_inner.specs.Inside.{HasPlans, local_name, names_of_bits, nets_in};
 ghost use Rattle.net_inner.specs.Naming.{AddsNames};
 ghost use Rattle.net_inner.specs.Pairs.{names_from};

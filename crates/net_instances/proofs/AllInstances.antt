@@ -11,7 +11,7 @@ use Rattle.list_defs.specs.Members.{IsIn}
 use Rattle.list_defs.specs.Orders.{AreAllRising}
 use Rattle.list_defs.proofs.Few.{place_of_member}
 use Rattle.list_defs.proofs.Members.{IsIn-map, IsIn-map_from, IsIn-slice_get}
-use Rattle.design_defs.specs.Hierarchy.{IsInstance, IsOfModule, Sources, Way, body_at, body_inside, module_at, module_named, type_of, way_cmp}
+use Rattle.design_defs.specs.Hierarchy.{IsInstance, IsOfModule, Sources, Way, body_at, body_inside, module_at, module_named, type_of, way_cmp, AreNamedInsts}
 use Rattle.design_defs.proofs.Lookups.{at_outer}
 use Rattle.module_rows.specs.declared.plain.Netlist.{Netlist}
 use Rattle.module_rows.specs.Reads.{inst_at, no_inst}
@@ -23,7 +23,7 @@ use Rattle.net_hierarchy.proofs.Ways.{inside_of_line, top_at}
 use Rattle.net_instances.specs.declared.numbering.InstanceRow.{InstanceRow}
 use Rattle.net_instances.specs.declared.numbering.Instances.{Instances}
 use Rattle.net_instances.specs.declared.tree.TreeRow.{TreeRow}
-use Rattle.net_instances.specs.Instances.{AreInstances, AreNamedInsts, AreRowsOf, HasChildAt, IsInsideAt, IsInstanceRow, IsLineOf, IsRowOf}
+use Rattle.net_instances.specs.Instances.{AreInstances, AreRowsOf, HasChildAt, IsInsideAt, IsInstanceRow, IsLineOf, IsRowOf}
 use Rattle.net_instances.specs.Orders.{IsInOrder}
 use Rattle.net_instances.specs.Trees.{IsTree, holder_of, lines_in, name_in, name_of, parent_in, type_at}
 use Rattle.net_instances.specs.Ways.{AreNamed, AreAllNamed, way_in, way_to}

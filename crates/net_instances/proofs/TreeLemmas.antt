@@ -3,17 +3,12 @@ use Rattle.std.proofs.Common.{◌≡◌, ℕ, zero, suc, ◌+◌, ◌<◌, ◌�
 use Rattle.std.proofs.lemmas.Bool.{cases_lt}
 use Rattle.std.proofs.lemmas.List.{append-nil, length_push}
 use Rattle.std.proofs.lemmas.Option.{none-some, same_Some, slice_get-get_or, slice_get_within}
-use Rattle.list_defs.proofs.Longer.{slice_get-append, slice_get_front, slice_get_last}
+use Rattle.list_defs.proofs.Longer.{slice_get-append, slice_get_front, slice_get_last, slice_get_behind}
 use Rattle.pw_defs.specs.declared.design.Body.TheVariants.{Module as ModuleBody}
 use Rattle.module_rows.specs.declared.plain.Netlist.{Netlist}
 use Rattle.net_hierarchy.specs.Graph.{Types}
 use Rattle.net_instances.specs.declared.tree.TreeRow.{TreeRow}
 use Rattle.net_instances.specs.Trees.{HasAllInside, HasChild, HasChildren, HasInside, IsChild, IsInside, IsTree, holder_of, lines_in}
-
-pub slice_get_behind : {X : Type 0} (xs ys : List X) (i : ℕ) → slice_get (xs ++ ys) (length xs + i) ≡ slice_get ys i
-slice_get_behind [] ys i = ap (λ (k : ℕ). slice_get ys k) {x = 0 + i} {y = i} (omega arith)
-slice_get_behind (x ∷ xs) ys i =
-    ap (λ (k : ℕ). slice_get (x ∷ (xs ++ ys)) k) {x = length (x ∷ xs) + i} {y = suc (length xs + i)} (omega arith) ∙ slice_get_behind xs ys i
 
 -- what stands behind the first of two lists stands in the second
 pub in_second : {X : Type 0} (xs ys : List X) (n : ℕ) (x : X) → length xs ≤ n → slice_get (xs ++ ys) n ≡ Some x → (i : ℕ) × (n ≡ length xs + i) × (slice_get ys i ≡ Some x)

@@ -1,11 +1,10 @@
 -- All instances of a hierarchy, by their numbers.
-use Rattle.std.specs.Prelude.{◌≡◌, ◌≢◌, ◌+◌, ℕ, List, [], ◌∷◌, Option, Some, length, option_and_then, option_map, slice_get, take}
+use Rattle.std.specs.Prelude.{◌≡◌, ◌+◌, ℕ, List, [], ◌∷◌, Option, Some, length, option_and_then, option_map, slice_get, take}
 use Rattle.std.specs.List.{sum_by}
 use Rattle.pw_defs.specs.declared.netlist.Inst.{Inst}
 use Rattle.pw_defs.specs.declared.netlist.Module.{Module}
-use Rattle.list_defs.specs.Members.{IsIn}
 use Rattle.list_defs.specs.Orders.{AreAllRising}
-use Rattle.design_defs.specs.Hierarchy.{IsInstance, IsOfModule, Sources, Way, body_at, module_at, way_cmp}
+use Rattle.design_defs.specs.Hierarchy.{IsInstance, IsOfModule, Sources, Way, body_at, way_cmp}
 use Rattle.module_rows.specs.declared.plain.Netlist.{Netlist}
 use Rattle.net_sizes.specs.Sizes.{count_in}
 use Rattle.net_sizes.specs.declared.sizes.Counts.{Counts}
@@ -16,10 +15,6 @@ use Rattle.net_instances.specs.declared.tree.TreeRow.{TreeRow}
 -- the number of the instance that a line makes inside another
 abbrev pub child_in : List InstanceRow → List ℕ → ℕ → ℕ → Option ℕ
 child_in rows children holder inst = option_and_then (λ (row : InstanceRow). slice_get children (row.first_child + inst)) (slice_get rows holder)
-
--- no line makes an instance of the empty name
-abbrev pub AreNamedInsts : Sources → Type 0
-AreNamedInsts s = (n : ℕ) (m : Module) (i : Inst) → module_at s n ≡ Some m → IsIn i m.insts → i.name ≢ []
 
 -- how many bits the instance of a row owns
 abbrev pub own_bits : Counts → InstanceRow → ℕ

@@ -1,9 +1,9 @@
 //! The instances of a design by their numbers, in the order of their paths.
 ghost use Rattle.std.specs.Prelude.{◌≡◌, ◌+◌, ℕ, Some, IfOk, IfSome, slice_get};
-ghost use Rattle.design_defs.specs.Hierarchy.{Sources, module_named};
+ghost use Rattle.design_defs.specs.Hierarchy.{Sources, module_named, AreNamedInsts};
 ghost use Rattle.net_hierarchy.specs.Graph.{AreInstsApart, types_of};
 ghost use Rattle.net_sizes.specs.Sizes.{count_in};
-ghost use Rattle.net_instances.specs.Instances.{AreInstances, AreNamedInsts, AreRowsOf, child_in, row_in};
+ghost use Rattle.net_instances.specs.Instances.{AreInstances, AreRowsOf, child_in, row_in};
 
 use crate::order::{Order, order_of};
 use crate::tree::{Tree, tree_of};

@@ -13,7 +13,7 @@ use Rattle.pw_defs.specs.declared.netlist.Inst.{Inst}
 use Rattle.pw_defs.specs.declared.netlist.Module.{Module}
 use Rattle.design_defs.specs.DesignFaults.{IsAtOrAbove}
 use Rattle.design_defs.specs.DesignFaults.IsAtOrAbove.{here, above}
-use Rattle.design_defs.specs.Hierarchy.{Sources, Way, body_at, body_inside, module_at, path, way_cmp}
+use Rattle.design_defs.specs.Hierarchy.{Sources, Way, body_at, body_inside, module_at, path, way_cmp, AreNamedInsts}
 use Rattle.design_defs.proofs.BitOrders.{way_total}
 use Rattle.design_defs.proofs.Lookups.{IsInsideBy, at_outer, other_name}
 use Rattle.list_defs.proofs.Rising.{not_before_itself}
@@ -22,7 +22,6 @@ use Rattle.net_hierarchy.proofs.Below.{snoc_view}
 use Rattle.net_hierarchy.proofs.NoneBefore.{not_less}
 use Rattle.net_hierarchy.proofs.Ways.{inside_of_line}
 use Rattle.net_least.specs.Links.{AreNamed, ends, slashed}
-use Rattle.net_least.specs.Nearest.{AreInstsNamed}
 use Rattle.net_least.specs.Recursion.{AreFree, Closes, Ends, IsBegun, IsBranch, IsClear, IsClosing, IsMarked, IsNext, key}
 use Rattle.net_least.proofs.FreeModules.{none_through_free}
 use Rattle.net_least.proofs.Fronts.{append_all, append_same, path_by_first, same_front, slashed_more, way_by_text}
@@ -100,7 +99,7 @@ same_number : (n k : ℕ) → Some (ModuleBody n) ≡ Some (ModuleBody k) → n 
 same_number n k e = cc
 
 -- the names of a way to an instance aren't empty
-pub named_at : (s : Sources) → AreInstsNamed s → (way : Way) (b : Body) → body_at s way ≡ Some b → AreNamed way
+pub named_at : (s : Sources) → AreNamedInsts s → (way : Way) (b : Body) → body_at s way ≡ Some b → AreNamed way
 named_at s names [] b is = tt
 named_at s names (name ∷ outer) b is = by (at_outer s name outer b is) (named_at s names outer)
   where
@@ -131,7 +130,7 @@ begun_at_top s top marks is one marked =
     clear [] name outer e closing = cc
     clear (x ∷ front) name outer e closing = cc
 
-module _ (s : Sources) (apart : AreInstsApart s) (names : AreInstsNamed s) (marks : List Bool) (n : ℕ) (begun : IsBegun s marks n) where
+module _ (s : Sources) (apart : AreInstsApart s) (names : AreNamedInsts s) (marks : List Bool) (n : ℕ) (begun : IsBegun s marks n) where
   -- the way closes where its module holds one that is marked
   pub closing_here : Closes (types_of s) marks n → IsClosing s begun.way
   closing_here (Closes.marked k holds mark) = record { n = n; k = k; body = begun.body; holds = holds; above = begun.marked k mark }

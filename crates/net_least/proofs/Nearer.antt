@@ -9,7 +9,7 @@ use Rattle.pw_defs.specs.declared.design.Body.{Body}
 use Rattle.pw_defs.specs.declared.design.Body.TheVariants.{Module as ModuleBody}
 use Rattle.pw_defs.specs.declared.netlist.Inst.{Inst}
 use Rattle.pw_defs.specs.declared.netlist.Module.{Module}
-use Rattle.design_defs.specs.Hierarchy.{Sources, Way, body_inside, module_at, type_of, way_cmp}
+use Rattle.design_defs.specs.Hierarchy.{Sources, Way, body_inside, module_at, type_of, way_cmp, AreNamedInsts}
 use Rattle.std.specs.Cmp.{IsTotalOrder}
 use Rattle.std.specs.Ordering.{ordering_reverse}
 use Rattle.design_defs.proofs.BitOrders.{way_total}
@@ -20,7 +20,7 @@ use Rattle.net_hierarchy.proofs.Below.{below_first, snoc_view}
 use Rattle.net_hierarchy.proofs.Ways.{inside_of_line}
 use Rattle.net_least.proofs.Fronts.{same_first}
 use Rattle.net_least.specs.Links.{AreNamed}
-use Rattle.net_least.specs.Nearest.{AreInstsNamed, AreNone, HasMark, IsLeastWay, IsWayBy, IsWayTo}
+use Rattle.net_least.specs.Nearest.{AreNone, HasMark, IsLeastWay, IsWayBy, IsWayTo}
 use Rattle.net_least.specs.declared.own.OwnFault.{OwnFault}
 
 module _ (s : Sources) (own : List (Option OwnFault)) (apart : AreInstsApart s) (n : ℕ) (m : Module) (is : module_at s n ≡ Some m) where
@@ -149,7 +149,7 @@ not_before cmp total x y z p q less = by (cmp y z) refl
     by Greater e = p (total.trans x z y less (total.antisymm z y ∙ ap ordering_reverse e))
 
 -- the names of a way that leads somewhere aren't empty
-pub named_below : (s : Sources) → AreInstsNamed s → (b : Body) (way : Way) (e : Body) → body_below s b way ≡ Some e → AreNamed way
+pub named_below : (s : Sources) → AreNamedInsts s → (b : Body) (way : Way) (e : Body) → body_below s b way ≡ Some e → AreNamed way
 named_below s named b [] e there = tt
 named_below s named b (name ∷ outer) e there = by (body_below s b outer) refl (named_below s named b outer)
   where
@@ -161,7 +161,7 @@ named_below s named b (name ∷ outer) e there = by (body_below s b outer) refl 
           rest c is,
         )
 
-module _ (s : Sources) (own : List (Option OwnFault)) (names : AreInstsNamed s) (insts : List Inst) (i : Inst) (k : ℕ) (some : i.name ≢ []) (type : type_of s i.kind ≡ Some (ModuleBody k))
+module _ (s : Sources) (own : List (Option OwnFault)) (names : AreNamedInsts s) (insts : List Inst) (i : Inst) (k : ℕ) (some : i.name ≢ []) (type : type_of s i.kind ≡ Some (ModuleBody k))
     (inner : Way) (number : ℕ) (is : IsLeastWay (IsWayTo s own k) inner number) where
   -- of the ways through the last instance, the least goes on by the least below its type
   last_least : (j : ℕ) (other : Way) (n : ℕ) → type_of s i.kind ≡ Some (ModuleBody j) → IsWayTo s own j other n → way_cmp (other ++ i.name ∷ []) (inner ++ i.name ∷ []) ≢ Less

@@ -11,10 +11,10 @@ use Rattle.list_defs.proofs.Longer.{slice_get_last}
 use Rattle.pw_defs.specs.declared.design.Body.TheVariants.{Module as ModuleBody}
 use Rattle.pw_defs.specs.declared.netlist.Inst.{Inst}
 use Rattle.pw_defs.specs.declared.netlist.Module.{Module}
-use Rattle.design_defs.specs.Hierarchy.{Sources, Way, module_at, type_of, way_cmp}
+use Rattle.design_defs.specs.Hierarchy.{Sources, Way, module_at, type_of, way_cmp, AreNamedInsts}
 use Rattle.net_hierarchy.specs.Graph.{AreInstsApart}
 use Rattle.net_least.specs.Links.{IsWay}
-use Rattle.net_least.specs.Nearest.{AreAllNear, AreInstsNamed, AreNone, HasMark, IsLeastWay, IsNear, IsNearBelow, IsNearest, IsWayBy, IsWayTo, near_at, or_none}
+use Rattle.net_least.specs.Nearest.{AreAllNear, AreNone, HasMark, IsLeastWay, IsNear, IsNearBelow, IsNearest, IsWayBy, IsWayTo, near_at, or_none}
 use Rattle.net_least.specs.declared.links.Link.{Link}
 use Rattle.net_least.specs.declared.nearest.Near.{Near}
 use Rattle.net_least.specs.declared.own.OwnFault.{OwnFault}
@@ -64,7 +64,7 @@ module _ (s : Sources) (own : List (Option OwnFault)) (symbols : List (List ℕ)
   near_other insts i (Some near) none known = record { way = known.way; goes = known.goes; least = least_more s own insts i none known.way near.end known.least }
 
 -- AN INSTANCE MORE, with a link for it.
-module _ (s : Sources) (own : List (Option OwnFault)) (symbols : List (List ℕ)) (links : List Link) (names : AreInstsNamed s) (insts : List Inst) (i : Inst) (k : ℕ)
+module _ (s : Sources) (own : List (Option OwnFault)) (symbols : List (List ℕ)) (links : List Link) (names : AreNamedInsts s) (insts : List Inst) (i : Inst) (k : ℕ)
     (some : i.name ≢ []) (type : type_of s i.kind ≡ Some (ModuleBody k)) (inner through : Near) (l : Link) (spelled : slice_get symbols l.name ≡ Some i.name)
     (next : l.next ≡ inner.at) (at : through.at ≡ Some (length links)) (end : through.end ≡ inner.end) (is : IsNearest symbols links (IsWayTo s own k) inner) where
   -- the way through the instance

@@ -8,13 +8,12 @@ use Rattle.pw_defs.specs.declared.design.Body.TheVariants.{Module as ModuleBody}
 use Rattle.pw_defs.specs.declared.netlist.Inst.{Inst}
 use Rattle.pw_defs.specs.declared.netlist.Module.{Module}
 use Rattle.design_defs.specs.DesignFaults.{Fault, FaultKind, IsAtOrAbove, IsFault, at_line, fault_cmp, kind_number}
-use Rattle.design_defs.specs.Hierarchy.{IsOfModule, Sources, Way, module_at, type_of, way_cmp}
+use Rattle.design_defs.specs.Hierarchy.{IsOfModule, Sources, Way, module_at, type_of, way_cmp, AreNamedInsts}
 use Rattle.net_hierarchy.specs.Firstness.{HasNoneBefore}
 use Rattle.net_hierarchy.specs.Graph.{AreInstsApart}
 use Rattle.net_hierarchy.proofs.NoneBefore.{later_kind, same_or_less}
 use Rattle.net_hierarchy.proofs.Ways.{holds_by}
 use Rattle.net_least.specs.Links.{AreNamed}
-use Rattle.net_least.specs.Nearest.{AreInstsNamed}
 use Rattle.net_least.specs.Lines.{IsFirstLine}
 use Rattle.net_least.specs.OwnFaults.{line_cmp}
 use Rattle.net_least.specs.Recursion.{IsBegun, IsClosing, IsOfMarked}
@@ -40,7 +39,7 @@ recursion_of s _ (IsFault.recursion way n k m i of_module one type upward) e =
     record { m = m; i = i; k = k; of_module = of_module; one = one; is_type = type; above = upward; same = refl; line = refl; name = refl }
 recursion_of s g other e = cc
 
-module _ (s : Sources) (apart : AreInstsApart s) (names : AreInstsNamed s) (none : HasNoneBefore FaultKind.recursion s) (marks : List Bool) (n : ℕ) (begun : IsBegun s marks n)
+module _ (s : Sources) (apart : AreInstsApart s) (names : AreNamedInsts s) (none : HasNoneBefore FaultKind.recursion s) (marks : List Bool) (n : ℕ) (begun : IsBegun s marks n)
     (m : Module) (is_module : module_at s n ≡ Some m) (symbols : List (List ℕ)) (own : OwnFault) (first : IsFirstLine (IsOfMarked s marks) symbols m.insts own) where
   here_at : IsOfModule s begun.way n m
   here_at = record { body = begun.body; is_module = is_module }

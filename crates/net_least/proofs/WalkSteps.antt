@@ -3,11 +3,10 @@ use Rattle.std.proofs.Common.{◌≡◌, ℕ, ◌<◌, Bool, true, false, List, 
 use Rattle.std.proofs.lemmas.List.{length-replicate, length-set}
 use Rattle.std.proofs.lemmas.Option.{slice_get_within}
 use Rattle.pw_defs.specs.declared.netlist.Module.{Module}
-use Rattle.design_defs.specs.Hierarchy.{Sources, module_at, module_named}
+use Rattle.design_defs.specs.Hierarchy.{Sources, module_at, module_named, AreNamedInsts}
 use Rattle.net_hierarchy.specs.Graph.{AreInstsApart, Leads, types_of}
 use Rattle.net_hierarchy.proofs.Ways.{top_at}
 use Rattle.net_sizes.proofs.Sizing.{leads_within}
-use Rattle.net_least.specs.Nearest.{AreInstsNamed}
 use Rattle.net_least.specs.Recursion.{AreFree, Closes, IsBegun, IsMarked, IsNext}
 use Rattle.net_least.proofs.Descents.{begun_at_top, begun_next, body_next}
 use Rattle.net_least.proofs.Marking.{marked_new, marked_old, marked_set, none_marked}
@@ -30,7 +29,7 @@ begun_start s top count named same =
     one : (j : ℕ) → IsMarked (set (replicate count false) top true) j → j ≡ top
     one j mark = elim (marked_set (replicate count false) top j mark) [ inl e ↦ e | inr never ↦ absurd (none_marked count j never) ]
 
-pub begun_after : (s : Sources) (top : ℕ) → module_named s s.top ≡ Some top → (apart : AreInstsApart s) (names : AreInstsNamed s) (marks : List Bool) (n : ℕ) (begun : IsBegun s marks n)
+pub begun_after : (s : Sources) (top : ℕ) → module_named s s.top ≡ Some top → (apart : AreInstsApart s) (names : AreNamedInsts s) (marks : List Bool) (n : ℕ) (begun : IsBegun s marks n)
     (free : List Bool) (are_free : AreFree (types_of s) free) (m : Module) (is_module : module_at s n ≡ Some m) (open_here : Closes (types_of s) marks n → ⊥)
     (k : ℕ) (next : IsNext s free marks m.insts k) → length marks ≡ length s.modules
     → IsBegun s (set marks k true) k × (length (set marks k true) ≡ length s.modules)

@@ -4,19 +4,14 @@ use Rattle.std.specs.declared.cmp.Ordering.TheVariants.{Less}
 use Rattle.pw_defs.specs.declared.design.Body.{Body}
 use Rattle.pw_defs.specs.declared.design.Body.TheVariants.{Module as ModuleBody, Cell as CellBody, Model as ModelBody}
 use Rattle.pw_defs.specs.declared.netlist.Inst.{Inst}
-use Rattle.pw_defs.specs.declared.netlist.Module.{Module}
 use Rattle.list_defs.specs.Members.{IsIn}
-use Rattle.design_defs.specs.Hierarchy.{Sources, Way, module_at, type_of, way_cmp}
+use Rattle.design_defs.specs.Hierarchy.{Sources, Way, type_of, way_cmp}
 use Rattle.net_hierarchy.specs.Below.{body_below}
 use Rattle.net_hierarchy.specs.Graph.{Holds, types_of}
 use Rattle.net_least.specs.Links.{IsWay}
 use Rattle.net_least.specs.declared.links.Link.{Link}
 use Rattle.net_least.specs.declared.nearest.Near.{Near}
 use Rattle.net_least.specs.declared.own.OwnFault.{OwnFault}
-
--- no instance has an empty name
-abbrev pub AreInstsNamed : Sources → Type 0
-AreInstsNamed s = (n : ℕ) (m : Module) (i : Inst) → module_at s n ≡ Some m → IsIn i m.insts → i.name ≢ []
 
 -- a module has a fault of its own
 pub record HasMark (own : List (Option OwnFault)) (n : ℕ) : Type 0 where

@@ -1,10 +1,9 @@
 //! The first fault of a kind that modules have wherever they stand, as an answer.
 ghost use Rattle.std.specs.Prelude.{◌≡◌, ℕ, List, Some, IfOk, slice_get};
 ghost use Rattle.design_defs.specs.DesignFaults.{FaultKind};
-ghost use Rattle.design_defs.specs.Hierarchy.{Sources, module_named};
+ghost use Rattle.design_defs.specs.Hierarchy.{Sources, module_named, AreNamedInsts};
 ghost use Rattle.net_hierarchy.specs.Firstness.{HasNoneBefore};
 ghost use Rattle.net_hierarchy.specs.Graph.{AreInstsApart, IsOrder, types_of};
-ghost use Rattle.net_least.specs.Nearest.{AreInstsNamed};
 ghost use Rattle.net_least.specs.OwnFaults.{AreOwn, IsFirstOf, IsOfLines, own_at};
 
 use crate::nearest::nearest_module;
@@ -56,7 +55,7 @@ pub fn first_of_kind(
     own: &[Option<OwnFault>],
 ) -> Result<Option<AtModule>, Memory>
     ensures { IfOk result (λ found. (s : Sources) → (kind : FaultKind) → s.modules ≡ modules.now.modules → types.now ≡ types_of s → module_named s s.top ≡ Some top
-        → AreInstsApart s → AreInstsNamed s → IsOrder (types_of s) top order.now → IsOfLines kind → HasNoneBefore kind s
+        → AreInstsApart s → AreNamedInsts s → IsOrder (types_of s) top order.now → IsOfLines kind → HasNoneBefore kind s
         → AreOwn s kind modules.now.symbols own.now → IsFirstOf s kind found) }
 {
     match nearest_module(alloc, modules, types, order, top, own)? {

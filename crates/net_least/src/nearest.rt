@@ -4,11 +4,11 @@
 ghost use Rattle.std.specs.Prelude.{◌≡◌, ◌≢◌, ◌<◌, ◌↔◌, ◌++◌, ◌∷◌, [], ℕ, List, Option, IfOk, IsTrue, Some, length, map, set, slice_get};
 ghost use Rattle.pw_defs.specs.declared.design.Body.TheVariants.{Module as ModuleBody};
 ghost use Rattle.pw_defs.specs.declared.netlist.Inst.{Inst as PlainInst};
-ghost use Rattle.design_defs.specs.Hierarchy.{Sources, module_named, type_of};
+ghost use Rattle.design_defs.specs.Hierarchy.{Sources, module_named, type_of, AreNamedInsts};
 ghost use Rattle.list_defs.specs.Members.{IsIn};
 ghost use Rattle.module_rows.specs.Reads.{module_at};
 ghost use Rattle.net_hierarchy.specs.Graph.{AreInstsApart, Holds, IsOrder, types_of};
-ghost use Rattle.net_least.specs.Nearest.{AreAllNear, AreHeldNear, AreInstsNamed, HasMark, IsEnd, IsNear, IsNearBelow, IsNearest, IsWayBy, IsWayTo, near_at, near_below};
+ghost use Rattle.net_least.specs.Nearest.{AreAllNear, AreHeldNear, HasMark, IsEnd, IsNear, IsNearBelow, IsNearest, IsWayBy, IsWayTo, near_at, near_below};
 ghost use Rattle.net_least.specs.declared.links.Link.{Link as PlainLink};
 ghost use Rattle.net_least.specs.declared.own.OwnFault.{OwnFault as PlainOwn};
 
@@ -71,7 +71,7 @@ fn nearer(
     name: u32,
 ) -> Result<Near, Memory>
     ensures grown { IfOk result (λ _. (more : List PlainLink) × (links.new ≡ links.old ++ more)) }
-    ensures near { IfOk result (λ near. (s : Sources) → (own : List (Option PlainOwn)) → (insts : List PlainInst) → (i : PlainInst) → (k : ℕ) → AreInstsNamed s
+    ensures near { IfOk result (λ near. (s : Sources) → (own : List (Option PlainOwn)) → (insts : List PlainInst) → (i : PlainInst) → (k : ℕ) → AreNamedInsts s
         → i.name ≢ [] → slice_get modules.now.symbols name ≡ Some i.name → type_of s i.kind ≡ Some (ModuleBody k)
         → IsNear modules.now.symbols links.old (IsWayBy s own insts) best → IsNearest modules.now.symbols links.old (IsWayTo s own k) inner
         → IsNearest modules.now.symbols links.new (IsWayBy s own (insts ++ i ∷ [])) near) }
@@ -105,7 +105,7 @@ fn nearer_by(
     name: u32,
 ) -> Result<Option<Near>, Memory>
     ensures grown { IfOk result (λ _. (more : List PlainLink) × (links.new ≡ links.old ++ more)) }
-    ensures near { IfOk result (λ near. (s : Sources) → (own : List (Option PlainOwn)) → (insts : List PlainInst) → (i : PlainInst) → AreInstsNamed s
+    ensures near { IfOk result (λ near. (s : Sources) → (own : List (Option PlainOwn)) → (insts : List PlainInst) → (i : PlainInst) → AreNamedInsts s
         → i.name ≢ [] → slice_get modules.now.symbols name ≡ Some i.name → IsNearBelow s own modules.now.symbols links.old i below
         → IsNear modules.now.symbols links.old (IsWayBy s own insts) best → IsNear modules.now.symbols links.new (IsWayBy s own (insts ++ i ∷ [])) near) }
 {
@@ -129,7 +129,7 @@ fn nearest_by(
 ) -> Result<Option<Near>, Memory>
     requires { holder < length modules.now.modules }
     ensures grown { IfOk result (λ _. (more : List PlainLink) × (links.new ≡ links.old ++ more)) }
-    ensures near { IfOk result (λ near. (s : Sources) → (own : List (Option PlainOwn)) → AreInstsNamed s → s.modules ≡ modules.now.modules
+    ensures near { IfOk result (λ near. (s : Sources) → (own : List (Option PlainOwn)) → AreNamedInsts s → s.modules ≡ modules.now.modules
         → row.now ≡ map (λ i. type_of s i.kind) (module_at modules.now holder).insts
         → AreHeldNear s own modules.now.symbols links.old nears.now holder
         → IsNear modules.now.symbols links.new (IsWayBy s own (module_at modules.now holder).insts) near) }
@@ -155,7 +155,7 @@ fn nearest_below(
 ) -> Result<Option<Near>, Memory>
     requires { number < length modules.now.modules }
     ensures grown { IfOk result (λ _. (more : List PlainLink) × (links.new ≡ links.old ++ more)) }
-    ensures near { IfOk result (λ near. (s : Sources) → AreInstsNamed s → AreInstsApart s → s.modules ≡ modules.now.modules → types.now ≡ types_of s
+    ensures near { IfOk result (λ near. (s : Sources) → AreNamedInsts s → AreInstsApart s → s.modules ≡ modules.now.modules → types.now ≡ types_of s
         → AreHeldNear s own.now modules.now.symbols links.old nears.now number → IsNear modules.now.symbols links.new (IsWayTo s own.now number) near) }
 {
     if has_mark(own, number) {
@@ -192,7 +192,7 @@ fn put_nearest(
     links: &mut List<Link>,
     number: u32,
 ) -> Result<(), Memory>
-    ensures { IfOk result (λ _. (s : Sources) → (done : List ℕ) → AreInstsNamed s → AreInstsApart s → s.modules ≡ modules.now.modules
+    ensures { IfOk result (λ _. (s : Sources) → (done : List ℕ) → AreNamedInsts s → AreInstsApart s → s.modules ≡ modules.now.modules
         → types.now ≡ types_of s → number < length s.modules → ((k : ℕ) → Holds (types_of s) number k → IsIn k done)
         → AreAllNear s own.now modules.now.symbols links.old nears.old.items done → AreAllNear s own.now modules.now.symbols links.new nears.new.items (done ++ number ∷ [])) }
 {
@@ -213,7 +213,7 @@ pub(crate) fn nearest_module(
     top: u32,
     own: &[Option<OwnFault>],
 ) -> Result<Option<u32>, Memory>
-    ensures { IfOk result (λ end. (s : Sources) → AreInstsNamed s → AreInstsApart s → s.modules ≡ modules.now.modules → types.now ≡ types_of s
+    ensures { IfOk result (λ end. (s : Sources) → AreNamedInsts s → AreInstsApart s → s.modules ≡ modules.now.modules → types.now ≡ types_of s
         → module_named s s.top ≡ Some top → IsOrder (types_of s) top order.now → IsEnd (IsWayTo s own.now top) end) }
 {
     let mut links = List::new(alloc);

@@ -1,10 +1,9 @@
 //! The order of the modules below a top, or the first fault of the hierarchy by itself.
 ghost use Rattle.std.specs.Prelude.{◌≡◌, IfOk, IfErr, Some};
 ghost use Rattle.design_defs.specs.DesignFaults.{FaultKind};
-ghost use Rattle.design_defs.specs.Hierarchy.{Sources, module_named};
+ghost use Rattle.design_defs.specs.Hierarchy.{Sources, module_named, AreNamedInsts};
 ghost use Rattle.net_hierarchy.specs.Firstness.{HasNoneBefore, IsCause};
 ghost use Rattle.net_hierarchy.specs.Graph.{AreInstsApart, IsOrder, types_of};
-ghost use Rattle.net_least.specs.Nearest.{AreInstsNamed};
 
 use crate::recursion::recursion_fault;
 use crate::unknown::unknown_fault;
@@ -24,9 +23,9 @@ pub fn ordered_modules(
     types: &List<List<Option<Body>>>,
     top: u32,
 ) -> Result<Vec<u32>, DesignFault>
-    ensures order { IfOk result (λ order. (s : Sources) → AreInstsApart s → AreInstsNamed s → s.modules ≡ modules.now.modules → types.now ≡ types_of s
+    ensures order { IfOk result (λ order. (s : Sources) → AreInstsApart s → AreNamedInsts s → s.modules ≡ modules.now.modules → types.now ≡ types_of s
         → module_named s s.top ≡ Some top → HasNoneBefore FaultKind.recursion s → IsOrder (types_of s) top order.items × HasNoneBefore FaultKind.size s) }
-    ensures cause { IfErr result (λ fault. (s : Sources) → AreInstsApart s → AreInstsNamed s → s.modules ≡ modules.now.modules → types.now ≡ types_of s
+    ensures cause { IfErr result (λ fault. (s : Sources) → AreInstsApart s → AreNamedInsts s → s.modules ≡ modules.now.modules → types.now ≡ types_of s
         → module_named s s.top ≡ Some top → HasNoneBefore FaultKind.recursion s → IsCause s fault) }
 {
     match sorted_modules(alloc, types, top)? {

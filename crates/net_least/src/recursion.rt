@@ -2,12 +2,11 @@
 //! the instances with the least names.
 ghost use Rattle.std.specs.Prelude.{◌≡◌, ◌<◌, ◌↔◌, ℕ, IfOk, IsTrue, Some, length, map};
 ghost use Rattle.design_defs.specs.DesignFaults.{FaultKind, HasFirstFault};
-ghost use Rattle.design_defs.specs.Hierarchy.{Sources, module_named, type_of};
+ghost use Rattle.design_defs.specs.Hierarchy.{Sources, module_named, type_of, AreNamedInsts};
 ghost use Rattle.pw_defs.specs.declared.faults.DesignFault.TheVariants.{N9};
 ghost use Rattle.module_rows.specs.Reads.{module_at};
 ghost use Rattle.net_hierarchy.specs.Firstness.{HasNoneBefore, IsCause};
 ghost use Rattle.net_hierarchy.specs.Graph.{AreInstsApart, types_of};
-ghost use Rattle.net_least.specs.Nearest.{AreInstsNamed};
 ghost use Rattle.net_least.specs.Lines.{IsLeastLine};
 ghost use Rattle.net_least.specs.Recursion.{AreFree, Closes, IsBegun, IsMarked, IsOfMarked, module_in};
 
@@ -55,7 +54,7 @@ fn answer_here(
     marks: &[bool],
     holder: u32,
 ) -> Result<AtModule, Memory>
-    ensures { IfOk result (λ at. (s : Sources) → AreInstsApart s → AreInstsNamed s → s.modules ≡ modules.now.modules → types.now ≡ types_of s
+    ensures { IfOk result (λ at. (s : Sources) → AreInstsApart s → AreNamedInsts s → s.modules ≡ modules.now.modules → types.now ≡ types_of s
         → HasNoneBefore FaultKind.recursion s → IsBegun s marks.now holder → HasFirstFault s (N9 at)) }
 {
     if holder >= modules.len() {
@@ -82,7 +81,7 @@ fn go_on(
     marks: &mut Vec<bool>,
     holder: u32,
 ) -> Result<u32, Memory>
-    ensures { IfOk result (λ number. (s : Sources) → (top : ℕ) → AreInstsApart s → AreInstsNamed s → s.modules ≡ modules.now.modules → types.now ≡ types_of s
+    ensures { IfOk result (λ number. (s : Sources) → (top : ℕ) → AreInstsApart s → AreNamedInsts s → s.modules ≡ modules.now.modules → types.now ≡ types_of s
         → module_named s s.top ≡ Some top → AreFree types.now free.now → (Closes types.now marks.old.items holder → ⊥) → length marks.old.items ≡ length s.modules
         → IsBegun s marks.old.items holder → IsBegun s marks.new.items number × (length marks.new.items ≡ length s.modules)) }
 {
@@ -98,7 +97,7 @@ fn first_recursion(
     types: &List<List<Option<Body>>>,
     top: u32,
 ) -> Result<AtModule, Memory>
-    ensures { IfOk result (λ at. (s : Sources) → AreInstsApart s → AreInstsNamed s → s.modules ≡ modules.now.modules → types.now ≡ types_of s
+    ensures { IfOk result (λ at. (s : Sources) → AreInstsApart s → AreNamedInsts s → s.modules ≡ modules.now.modules → types.now ≡ types_of s
         → module_named s s.top ≡ Some top → HasNoneBefore FaultKind.recursion s → HasFirstFault s (N9 at)) }
 {
     let free = free_marks(alloc, types, top)?;
@@ -123,7 +122,7 @@ pub fn recursion_fault(
     types: &List<List<Option<Body>>>,
     top: u32,
 ) -> DesignFault
-    ensures { (s : Sources) → AreInstsApart s → AreInstsNamed s → s.modules ≡ modules.now.modules → types.now ≡ types_of s
+    ensures { (s : Sources) → AreInstsApart s → AreNamedInsts s → s.modules ≡ modules.now.modules → types.now ≡ types_of s
         → module_named s s.top ≡ Some top → HasNoneBefore FaultKind.recursion s → IsCause s result }
 {
     match first_recursion(alloc, modules, types, top) {

@@ -1,11 +1,10 @@
 //! An instance of a type that isn't there, as an answer.
 ghost use Rattle.std.specs.Prelude.{◌≡◌, ◌<◌, ◌↔◌, ℕ, IsTrue, IfOk, IfErr, Some, None, length, map, slice_get};
 ghost use Rattle.design_defs.specs.DesignFaults.{FaultKind};
-ghost use Rattle.design_defs.specs.Hierarchy.{Sources, module_named, type_of};
+ghost use Rattle.design_defs.specs.Hierarchy.{Sources, module_named, type_of, AreNamedInsts};
 ghost use Rattle.module_rows.specs.Reads.{module_at};
 ghost use Rattle.net_hierarchy.specs.Firstness.{HasNoneBefore, IsCause};
 ghost use Rattle.net_hierarchy.specs.Graph.{AreInstsApart, IsOrder, types_of};
-ghost use Rattle.net_least.specs.Nearest.{AreInstsNamed};
 ghost use Rattle.net_least.specs.OwnFaults.{AreOwn};
 ghost use Rattle.net_least.specs.Lines.{IsLeastLine, IsUnknown};
 
@@ -67,9 +66,9 @@ pub fn unknown_fault(
     top: u32,
 ) -> Result<(), DesignFault>
     ensures none { IfOk result (λ _. (s : Sources) → s.modules ≡ modules.now.modules → types.now ≡ types_of s → module_named s s.top ≡ Some top
-        → AreInstsApart s → AreInstsNamed s → IsOrder (types_of s) top order.now → HasNoneBefore FaultKind.unknown_type s → HasNoneBefore FaultKind.size s) }
+        → AreInstsApart s → AreNamedInsts s → IsOrder (types_of s) top order.now → HasNoneBefore FaultKind.unknown_type s → HasNoneBefore FaultKind.size s) }
     ensures cause { IfErr result (λ fault. (s : Sources) → s.modules ≡ modules.now.modules → types.now ≡ types_of s → module_named s s.top ≡ Some top
-        → AreInstsApart s → AreInstsNamed s → IsOrder (types_of s) top order.now → HasNoneBefore FaultKind.unknown_type s → IsCause s fault) }
+        → AreInstsApart s → AreNamedInsts s → IsOrder (types_of s) top order.now → HasNoneBefore FaultKind.unknown_type s → IsCause s fault) }
 {
     let own = unknown_in(alloc, modules, types)?;
     match first_of_kind(alloc, modules, types, order, top, own.as_slice())? {

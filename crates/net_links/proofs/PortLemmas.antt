@@ -13,7 +13,7 @@ use Rattle.pw_defs.specs.declared.netlist.Port.{Port}
 use Rattle.list_defs.specs.Members.{place_of, same_name}
 use Rattle.list_defs.proofs.NameLemmas.{same_name-equal}
 use Rattle.design_defs.specs.Bits.{port_named, range_in}
-use Rattle.design_defs.specs.Hierarchy.{Sources, module_at, number_named, ports_in, type_of}
+use Rattle.design_defs.specs.Hierarchy.{Sources, module_at, number_named, ports_in, type_of, HasBody}
 use Rattle.design_defs.specs.Places.{net_range}
 use Rattle.design_defs.specs.Ports.{ports_among}
 use Rattle.design_defs.specs.Ranges.{width}
@@ -22,7 +22,6 @@ use Rattle.net_hierarchy.specs.Graph.{Types, types_of}
 use Rattle.net_places.specs.declared.plans.Plans.{Plans}
 use Rattle.net_places.specs.declared.rows.NetRow.{NetRow}
 use Rattle.net_places.specs.Nets.{OwnNet, own_net}
-use Rattle.net_places.specs.Plans.{HasBody}
 use Rattle.net_runs.specs.Known.{IsNetRow}
 use Rattle.net_runs.specs.LocalNumbers.{IsBitNumber}
 use Rattle.net_links.specs.Adding.{AreParts, dir_among}

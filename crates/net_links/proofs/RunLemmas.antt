@@ -1,7 +1,7 @@
 -- Rows that runs of bits make, and the links that are in them.
 use Rattle.std.proofs.Common.{◌≡◌, ℕ, zero, suc, ◌+◌, ◌-◌, ◌^◌, ◌<◌, ◌≤◌, min, List, [], ◌∷◌, ◌++◌, length, get_or, map, take, drop, refl, sym, ap, ◌∙◌, arith, append_assoc}
 use Rattle.std.specs.Prelude.{Option, Some, None}
-use Rattle.std.specs.List.{AllByRecursion, enumerate_from, filter_map, range_with_len, zip}
+use Rattle.std.specs.List.{enumerate_from, filter_map, range_with_len, zip}
 use Rattle.std.proofs.Math.Nat.{min-eq_left}
 use Rattle.std.proofs.lemmas.Grind.{flat_map-append}
 use Rattle.std.proofs.lemmas.List.{length-append, map-append, take-append-drop}
@@ -17,6 +17,7 @@ use Rattle.net_runs.specs.LocalNumbers.{run_bits}
 use Rattle.net_links.specs.declared.rows.LinkEnd.TheVariants.{Own, Child}
 use Rattle.net_links.specs.LocalLinks.{LocalLink, end_after, links_of_row}
 use Rattle.net_links.specs.RunLinks.{AreFew, AreFewOwn, IsFewBit, IsNarrow, IsNarrowEnd, count_of, end_of_run, local_in, local_out, locals_of_port, own_end, row_in, row_out}
+use Rattle.list_defs.proofs.Rising.{each_front, each_behind}
 
 -- LISTS of numbers, and what is made from them
 -- what is made from numbers of things that are made from numbers
@@ -75,14 +76,6 @@ pub zipped : {X Y Z : Type 0} (f : X × Y → Z) (g : ℕ → X) (h : ℕ → Y)
 zipped f g h q each a zero = refl
 zipped f g h q each a (suc n) =
     ap (λ z. z ∷ map f (zip (map g (range_with_len (a + 1) n)) (map h (range_with_len (a + 1) n)))) (each a) ∙ ap (λ zs. q a ∷ zs) (zipped f g h q each (a + 1) n)
-
-pub all_front : {X : Type 0} (P : X → Type 0) (xs ys : List X) → AllByRecursion P (xs ++ ys) → AllByRecursion P xs
-all_front P [] ys all = tt
-all_front P (x ∷ xs) ys all = (all.0, all_front P xs ys all.1)
-
-pub all_behind : {X : Type 0} (P : X → Type 0) (xs ys : List X) → AllByRecursion P (xs ++ ys) → AllByRecursion P ys
-all_behind P [] ys all = all
-all_behind P (x ∷ xs) ys all = all_behind P xs ys all.1
 
 -- RUNS
 -- a bit of a run
@@ -150,8 +143,8 @@ out_none inst line bit count = numbered_none (local_out inst line) (λ k. None) 
 -- RUNS one behind another
 few_at : (runs : List Run) (i : ℕ) (d : Run) → i < length runs → AreFew (runs_bits runs) → AreFew (run_bits (get_or runs i d))
 few_at [] i d within few = absurd (omega arith)
-few_at (run ∷ runs) zero d within few = all_front IsFewBit (run_bits run) (runs_bits runs) few
-few_at (run ∷ runs) (suc i) d within few = few_at runs i d (omega arith) (all_behind IsFewBit (run_bits run) (runs_bits runs) few)
+few_at (run ∷ runs) zero d within few = each_front IsFewBit (run_bits run) (runs_bits runs) few
+few_at (run ∷ runs) (suc i) d within few = few_at runs i d (omega arith) (each_behind IsFewBit (run_bits run) (runs_bits runs) few)
 
 front_short : (runs : List Run) (n : ℕ) → length (runs_bits (take n runs)) ≤ length (runs_bits runs)
 front_short runs n =

@@ -12,7 +12,8 @@ use Rattle.net_runs.specs.Leaves.{runs_bits}
 use Rattle.net_runs.specs.LocalNumbers.{run_bits}
 use Rattle.net_links.specs.LocalLinks.{LocalLink, end_after, links_of_row}
 use Rattle.net_links.specs.RunLinks.{AreFew, AreFewOwn, IsFewBit, IsFewOwn, IsNarrow, bits_back, count_of, end_of_run, local_across, locals_of_sides, own_end, row_across}
-use Rattle.net_links.proofs.RunLemmas.{all_behind, all_front, bit_at, drop_range, end_is, few_of_own, few_run, narrow_run, not_cut, own_run, run_is, run_length, shifted, zip_append, zipped}
+use Rattle.net_links.proofs.RunLemmas.{bit_at, drop_range, end_is, few_of_own, few_run, narrow_run, not_cut, own_run, run_is, run_length, shifted, zip_append, zipped}
+use Rattle.list_defs.proofs.Rising.{each_front, each_behind}
 
 -- a run is added in front of those that are given from the last one on
 back_more : (runs : List Run) (run : Run) → bits_back (runs ++ run ∷ []) ≡ run_bits run ++ bits_back runs
@@ -90,7 +91,7 @@ behind_holds : (P : Option ℕ → Type 0) (run : Run) (n : ℕ) (us : List (Opt
 behind_holds P run n us all =
     let bits = run_bits run in
     let whole : bits ++ us ≡ take n bits ++ (drop n bits ++ us) = split_front bits us n in
-    all_behind P (take n bits) (drop n bits ++ us) (subst (AllByRecursion P) whole all)
+    each_behind P (take n bits) (drop n bits ++ us) (subst (AllByRecursion P) whole all)
 
 across_narrow : (line : ℕ) (left right : Run) → AreFewOwn (run_bits left) → AreFew (run_bits right) → 0 < min (count_of left) (count_of right)
     → IsNarrow (row_across line left right)
@@ -131,7 +132,7 @@ pub more_fed : (fed source : Run) (n : ℕ) (us more : List (Option ℕ)) → n 
     → (AreFew (run_bits fed) → n ≤ count_of fed → more ≡ drop n (run_bits fed) ++ us) → (more ≡ drop (min (count_of fed) (count_of source)) (run_bits fed) ++ us) × AreFewOwn more
 more_fed fed source n us more is few back =
     let short : min (count_of fed) (count_of source) ≤ count_of fed = min-le_left (count_of fed) (count_of source) in
-    let same : more ≡ drop n (run_bits fed) ++ us = back (few_of_own (run_bits fed) (all_front IsFewOwn (run_bits fed) us few)) (omega (arith, is, short)) in
+    let same : more ≡ drop n (run_bits fed) ++ us = back (few_of_own (run_bits fed) (each_front IsFewOwn (run_bits fed) us few)) (omega (arith, is, short)) in
     (same ∙ ap (λ (k : ℕ). drop k (run_bits fed) ++ us) is, subst AreFewOwn (sym same) (behind_holds IsFewOwn fed n us few))
 
 pub more_source : (fed source : Run) (n : ℕ) (vs more : List (Option ℕ)) → n ≡ min (count_of fed) (count_of source) → AreFew (run_bits source ++ vs)
@@ -139,7 +140,7 @@ pub more_source : (fed source : Run) (n : ℕ) (vs more : List (Option ℕ)) →
     → (more ≡ drop (min (count_of fed) (count_of source)) (run_bits source) ++ vs) × AreFew more
 more_source fed source n vs more is few back =
     let short : min (count_of fed) (count_of source) ≤ count_of source = min-le_right (count_of fed) (count_of source) in
-    let same : more ≡ drop n (run_bits source) ++ vs = back (all_front IsFewBit (run_bits source) vs few) (omega (arith, is, short)) in
+    let same : more ≡ drop n (run_bits source) ++ vs = back (each_front IsFewBit (run_bits source) vs few) (omega (arith, is, short)) in
     (same ∙ ap (λ (k : ℕ). drop k (run_bits source) ++ vs) is, subst AreFew (sym same) (behind_holds IsFewBit source n vs few))
 
 -- a row and what is put back have the links of both sides
@@ -151,7 +152,7 @@ pub across_more : (line : ℕ) (fed source : Run) (n : ℕ) (us vs more_us more_
     → new ++ locals_of_sides line more_us more_vs ≡ old ++ locals_of_sides line (run_bits fed ++ us) (run_bits source ++ vs)
 across_more line fed source n us vs more_us more_vs old new is few_fed few_source put back_fed back_source =
     sides_more line fed source us vs more_us more_vs old new
-    (put (λ some. across_narrow line fed source (all_front IsFewOwn (run_bits fed) us few_fed) (all_front IsFewBit (run_bits source) vs few_source) (omega (arith, some, is))))
+    (put (λ some. across_narrow line fed source (each_front IsFewOwn (run_bits fed) us few_fed) (each_front IsFewBit (run_bits source) vs few_source) (omega (arith, some, is))))
     (more_fed fed source n us more_us is few_fed back_fed).0 (more_source fed source n vs more_vs is few_source back_source).0
 
 -- where nothing is left of the right side, all rows are there

@@ -1,34 +1,29 @@
 -- What is fed and feeds something is a bit that there is.
-use Rattle.std.proofs.Common.{◌≡◌, ℕ, ◌<◌, ◌≤◌, ◌⊎◌, inl, inr, Bool, true, false, not, ◌&&◌, List, [], ◌∷◌, ◌++◌, Option, None, Some, map, option_map, option_and_then, slice_get, refl, sym, ap, ◌∙◌, subst, arith, append_assoc}
-use Rattle.std.specs.List.{AllZip, find, list_any, slice_index_or}
+use Rattle.std.proofs.Common.{◌≡◌, ℕ, ◌⊎◌, inl, inr, Bool, true, false, List, [], ◌∷◌, ◌++◌, Option, None, Some, map, option_map, option_and_then, slice_get, refl, sym, ap, ◌∙◌, subst, arith}
+use Rattle.std.specs.List.{slice_index_or}
 use Rattle.std.specs.Option.{IsSomeAnd, MatchOption}
-use Rattle.std.proofs.lemmas.Bool.{and_parts, cases_lt}
-use Rattle.std.proofs.lemmas.Option.{same_Some, slice_get-map}
 use Rattle.std.proofs.lemmas.Slice.Zip.{AllZip-left}
 use Rattle.pw_defs.specs.declared.cells.Cell.{Cell}
 use Rattle.pw_defs.specs.declared.cells.Pin.{Pin}
-use Rattle.pw_defs.specs.declared.design.Body.{Body}
-use Rattle.pw_defs.specs.declared.design.Body.TheVariants.{Cell as CellBody, Model as ModelBody}
 use Rattle.pw_defs.specs.declared.chains.Partial.TheVariants.{Feed}
 use Rattle.pw_defs.specs.declared.model.Model.{Model}
 use Rattle.pw_defs.specs.declared.netlist.Inst.{Inst}
-use Rattle.pw_defs.specs.declared.netlist.Module.{Module}
 use Rattle.pw_defs.specs.declared.netlist.Net.{Net}
 use Rattle.pw_defs.specs.declared.netlist.Port.{Port}
-use Rattle.list_defs.specs.Members.{IsIn, all_differ, same_name}
+use Rattle.list_defs.specs.Members.{IsIn, same_name}
 use Rattle.list_defs.specs.Orders.{AreAllRising}
 use Rattle.list_defs.proofs.Few.{place_of_member}
 use Rattle.list_defs.proofs.Members.{IsIn-slice_get}
-use Rattle.list_defs.proofs.NameLemmas.{same_name-equal, same_name-itself}
+use Rattle.list_defs.proofs.NameLemmas.{same_name-equal, same_name-itself, differ_behind}
 use Rattle.design_defs.specs.Bits.{IsSpot, Spot, port_named, range_in, range_of, spot_cmp}
-use Rattle.design_defs.specs.DesignFaults.{FaultKind, HasPortAt}
+use Rattle.design_defs.specs.DesignFaults.{FaultKind}
 use Rattle.design_defs.specs.Designs.{IsLinked}
-use Rattle.design_defs.specs.Hierarchy.{IsInstance, IsOfModule, Sources, Way, body_at, module_at, ports_in}
+use Rattle.design_defs.specs.Hierarchy.{Sources}
 use Rattle.design_defs.specs.Inputs.{AreReadSources}
 use Rattle.design_defs.specs.Links.{Feeds, IsLink, IsModelFeed, IsThrough, links_in, spot_of}
 use Rattle.design_defs.specs.Models.{HasWellFormedFields}
 use Rattle.design_defs.specs.Ports.{is_input, port_of_pin}
-use Rattle.design_defs.specs.Ranges.{bit_name, width}
+use Rattle.design_defs.specs.Ranges.{bit_name}
 use Rattle.design_laws.proofs.FirstFound.{own_place}
 use Rattle.design_laws.proofs.ModelFeeds.{IsBitAmong, in_of_line, model_port}
 use Rattle.net_bits.specs.Placed.{ArePlaced}
@@ -37,11 +32,10 @@ use Rattle.net_feeds.specs.LinkNumbers.{AreAllLocal, HasSpotAt, end_number}
 use Rattle.net_feeds.proofs.LinkLemmas.{end_there}
 use Rattle.net_hierarchy.specs.Firstness.{HasNoneBefore}
 use Rattle.net_hierarchy.specs.Graph.{AreInstsApart}
-use Rattle.net_links.specs.LocalLinks.{AreLocalLinks, IsLocalLink, LocalLink, locals}
+use Rattle.net_links.specs.LocalLinks.{IsLocalLink, LocalLink, locals}
 use Rattle.net_links.specs.declared.rows.LinkRow.{LinkRow}
-use Rattle.design_laws.proofs.LinkCases.{differ_behind}
 use Rattle.net_loops.proofs.EarlyNames.{one_port}
-use Rattle.net_loops.proofs.OneFeed.{IsFedFrom, IsGhost, fed_from, model_of, one_model}
+use Rattle.net_loops.proofs.OneFeed.{IsFedFrom, fed_from, model_of, one_model}
 
 -- instances of a module that was read have names of their own
 pub insts_apart : (s : Sources) → AreReadSources s → AreInstsApart s

@@ -14,7 +14,7 @@ use Rattle.pw_defs.specs.declared.netlist.Module.{Module}
 use Rattle.list_defs.specs.Orders.{IsLeast, IsRising, name_cmp}
 use Rattle.list_defs.proofs.Few.{place_of_member}
 use Rattle.list_defs.proofs.OneList.{one_place}
-use Rattle.list_defs.proofs.Rising.{not_before_itself, not_both_before}
+use Rattle.list_defs.proofs.Rising.{not_before_itself, not_both_before, rising_at}
 use Rattle.design_defs.specs.DesignFaults.{Fault, FaultKind, HasFirstFault, HasThingName, IsFault, StandsAt, Thing, at_line, fault_cmp, kind_number, place_of_fault, way_of}
 use Rattle.design_defs.specs.Hierarchy.{IsInstance, IsOfModule, Sources, Way, way_cmp}
 use Rattle.design_defs.proofs.BitOrders.{way_exact, way_total}
@@ -30,7 +30,6 @@ use Rattle.net_names.specs.Meets.{name_at_cmp}
 use Rattle.net_names.specs.Things.{HasMet, HasPlace, IsBelow, IsTwice}
 use Rattle.net_names.specs.declared.meeting.Meeting.{Meeting}
 use Rattle.net_names.specs.declared.meeting.NameAt.{NameAt}
-use Rattle.net_names.proofs.Ranks.{rising_at}
 use Rattle.net_names.proofs.Stands.{one_module}
 
 -- what stands somewhere stands in a module

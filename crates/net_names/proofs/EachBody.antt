@@ -41,10 +41,6 @@ differ_front (x ∷ xs) ys e =
     both_true (not (list_any (same_name x) xs)) (all_differ same_name xs)
     (not_or (list_any (same_name x) xs) (list_any (same_name x) ys) (ap not (sym (list_any-append (same_name x) xs ys)) ∙ parts.0)) (differ_front xs ys parts.1)
 
-pub differ_back : (xs ys : List (List ℕ)) → all_differ same_name (xs ++ ys) ≡ true → all_differ same_name ys ≡ true
-differ_back [] ys e = e
-differ_back (x ∷ xs) ys e = differ_back xs ys (and_parts (not (list_any (same_name x) (xs ++ ys))) (all_differ same_name (xs ++ ys)) e).1
-
 differ_apart : (x : List ℕ) (xs ys : List (List ℕ)) → all_differ same_name (xs ++ ys) ≡ true → IsIn x xs → IsIn x ys → ⊥
 differ_apart x [] ys e in_xs in_ys = in_xs
 differ_apart x (y ∷ xs) ys e in_xs in_ys =

@@ -5,14 +5,13 @@ use Rattle.pw_defs.specs.declared.model.Model.{Model}
 use Rattle.pw_defs.specs.declared.netlist.Module.{Module}
 use Rattle.list_defs.specs.Members.{IsIn}
 use Rattle.design_defs.specs.DesignFaults.{FaultKind}
-use Rattle.design_defs.specs.Hierarchy.{Sources}
+use Rattle.design_defs.specs.Hierarchy.{Sources, AreNamedInsts}
 use Rattle.design_defs.specs.Inputs.{AreReadSources, IsReadModule}
 use Rattle.design_defs.specs.Models.{HasWellFormedFields}
 use Rattle.module_rows.specs.Growth.{no_module}
 use Rattle.module_rows.specs.Reads.{module_at}
 use Rattle.module_rows.specs.declared.plain.Netlist.{Netlist}
 use Rattle.net_hierarchy.specs.Ordered.{HasNoneOf}
-use Rattle.net_instances.specs.Instances.{AreNamedInsts}
 use Rattle.net_names.specs.Apart.{AreApart, IsNameApart, inst_names, port_names}
 use Rattle.net_names.specs.Bodies.{AreFree}
 use Rattle.net_names.specs.Marks.{AreMarked, AreVectorsMarked}

@@ -12,11 +12,10 @@ use Rattle.list_defs.specs.Members.{IsIn}
 use Rattle.list_defs.proofs.Members.{IsIn-map, IsIn-slice_get}
 use Rattle.list_defs.proofs.NameLemmas.{place_of-own}
 use Rattle.design_defs.specs.DesignFaults.{HasPortAt, HasThingName, Thing}
-use Rattle.design_defs.specs.Hierarchy.{Sources, Way, body_at, body_inside, path, ports_in}
+use Rattle.design_defs.specs.Hierarchy.{Sources, Way, body_at, body_inside, path, ports_in, AreNamedInsts}
 use Rattle.design_defs.specs.Names.{joined}
 use Rattle.design_defs.specs.Ranges.{bit_name, index_at, width}
 use Rattle.design_defs.proofs.Lookups.{at_outer, inside_by}
-use Rattle.net_instances.specs.Instances.{AreNamedInsts}
 use Rattle.net_instances.specs.Ways.{AreNamed}
 use Rattle.net_names.specs.Apart.{AreAllApart, AreApart, HasOwnNames, IsSmall, inst_names, insts_in, names_or_none, port_names}
 use Rattle.net_names.proofs.Splits.{IsSplit, index_few, index_once, split}

@@ -2,16 +2,14 @@
 use Rattle.std.proofs.Common.{◌≡◌, ◌≢◌, ◌⊎◌, ℕ, zero, suc, false, ◌+◌, ◌<◌, List, [], ◌∷◌, ◌++◌, Option, None, Some, length, map, slice_get, inl, inr, refl, sym, ap, ◌∙◌, subst, arith, append_assoc}
 use Rattle.std.specs.Prelude.{decimal}
 use Rattle.std.specs.List.{range_with_len}
-use Rattle.std.specs.declared.cmp.Ordering.{Ordering}
 use Rattle.std.specs.declared.cmp.Ordering.TheVariants.{Less}
 use Rattle.std.proofs.lemmas.Bool.{cases_eq}
 use Rattle.std.proofs.lemmas.Option.{same_Some}
 use Rattle.pw_defs.specs.declared.design.Body.{Body}
 use Rattle.pw_defs.specs.declared.netlist.Port.{Port}
 use Rattle.list_defs.specs.Orders.{IsRising}
-use Rattle.list_defs.proofs.Members.{IsIn-slice_get}
 use Rattle.list_defs.proofs.OneList.{one_place}
-use Rattle.list_defs.proofs.Rising.{each_in, not_before_itself, not_both_before}
+use Rattle.list_defs.proofs.Rising.{not_before_itself, not_both_before, rising_at}
 use Rattle.design_defs.specs.DesignFaults.{HasPortAt, HasThingName, Thing, way_of}
 use Rattle.design_defs.specs.Hierarchy.{Sources, Way, body_at, path, way_cmp}
 use Rattle.design_defs.specs.Names.{joined}
@@ -25,14 +23,6 @@ use Rattle.net_names.specs.declared.meeting.NameAt.{NameAt}
 use Rattle.net_names.specs.declared.meeting.Place.{Place}
 use Rattle.net_names.proofs.MeetLaws.{Keeps, met_all-append, met_more, met_same}
 use Rattle.net_names.proofs.Stands.{is_instance, is_there, one_port}
-
-pub rising_at : {X : Type 0} (cmp : X → X → Ordering) (xs : List X) → IsRising cmp xs → (i j : ℕ) (x y : X) → i < j → slice_get xs i ≡ Some x → slice_get xs j ≡ Some y → cmp x y ≡ Less
-rising_at cmp [] rising i j x y less e f = cc
-rising_at cmp (z ∷ zs) rising i zero x y less e f = absurd (omega (arith, less))
-rising_at cmp (z ∷ zs) rising zero (suc j) x y less e f =
-    let same : z ≡ x = cc in
-    subst (λ w. cmp w y ≡ Less) same (each_in (λ w. cmp z w ≡ Less) zs y rising.0 (IsIn-slice_get zs j y f))
-rising_at cmp (z ∷ zs) rising (suc i) (suc j) x y less e f = rising_at cmp zs rising.1 i j x y (omega (arith, less)) e f
 
 -- a thing by its ranks
 ranks_one : (x y : Thing) → way_of x ≡ way_of y → port_rank x ≡ port_rank y → bit_rank x ≡ bit_rank y → x ≡ y

@@ -15,9 +15,9 @@ use Rattle.list_defs.specs.Members.{all_differ, same_name}
 use Rattle.list_defs.specs.Orders.{IsRising}
 use Rattle.list_defs.proofs.Few.{place_of_member}
 use Rattle.list_defs.proofs.Members.{IsIn-slice_get}
-use Rattle.list_defs.proofs.Rising.{not_before_itself}
+use Rattle.list_defs.proofs.Rising.{not_before_itself, rising_at}
 use Rattle.design_defs.specs.DesignFaults.{HasPortAt, HasThingName, StandsAt, Thing, way_of}
-use Rattle.design_defs.specs.Hierarchy.{IsOfModule, Sources, Way, body_at, inst_named, module_named, path, ports_in, way_cmp}
+use Rattle.design_defs.specs.Hierarchy.{IsOfModule, Sources, Way, body_at, inst_named, module_named, path, ports_in, way_cmp, AreNamedInsts}
 use Rattle.design_defs.specs.Inputs.{AreReadSources}
 use Rattle.design_defs.specs.Links.{IsInstLine}
 use Rattle.design_defs.specs.Names.{joined}
@@ -27,7 +27,7 @@ use Rattle.module_rows.specs.Growth.{no_module}
 use Rattle.module_rows.specs.Reads.{inst_at, module_at, no_inst}
 use Rattle.module_rows.specs.declared.plain.Netlist.{Netlist}
 use Rattle.net_hierarchy.proofs.Ways.{find_own}
-use Rattle.net_instances.specs.Instances.{AreInstances, AreNamedInsts, IsInsideAt, IsLineOf}
+use Rattle.net_instances.specs.Instances.{AreInstances, IsInsideAt, IsLineOf}
 use Rattle.net_instances.specs.Ways.{AreNamed}
 use Rattle.net_instances.specs.declared.numbering.InstanceRow.{InstanceRow}
 use Rattle.net_instances.specs.declared.numbering.Instances.{Instances}
@@ -38,10 +38,11 @@ use Rattle.net_names.specs.Walking.{HasMetAt, HasMetInner, HasMetPorts, HasMetTo
 use Rattle.net_names.specs.declared.meeting.Meeting.{Meeting}
 use Rattle.net_names.specs.declared.meeting.NameAt.{NameAt}
 use Rattle.net_names.specs.declared.meeting.Place.{Place}
-use Rattle.net_names.proofs.EachBody.{differ_back, option_map_some}
+use Rattle.net_names.proofs.EachBody.{option_map_some}
 use Rattle.net_names.proofs.Law.{below_top, named_way}
-use Rattle.net_names.proofs.Ranks.{instance_done, next_met, port_done, ports_met, rising_at}
+use Rattle.net_names.proofs.Ranks.{instance_done, next_met, port_done, ports_met}
 use Rattle.net_names.proofs.Stands.{is_instance, is_there, no_instance}
+use Rattle.list_defs.proofs.NameLemmas.{differ_behind}
 
 take_get : {X : Type 0} (n : ℕ) (xs : List X) (i : ℕ) (x : X) → slice_get (take n xs) i ≡ Some x → slice_get xs i ≡ Some x
 take_get zero xs i x e = cc
@@ -132,7 +133,7 @@ module _ (s : Sources) (n : Netlist) (cells : Cells) (models : List Model) (bits
 
       differ : all_differ same_name (map (λ (i : Inst). i.name) line.m.insts) ≡ true
       differ =
-          differ_back (map (λ (p : Port). p.name) line.m.ports ++ map (λ (w : Net). w.name) line.m.nets) (map (λ (i : Inst). i.name) line.m.insts)
+          differ_behind (map (λ (p : Port). p.name) line.m.ports ++ map (λ (w : Net). w.name) line.m.nets) (map (λ (i : Inst). i.name) line.m.insts)
           (read.each_module line.m (IsIn-slice_get s.modules line.number line.m line.of_module.is_module)).own_names
 
   -- PORTS of an instance

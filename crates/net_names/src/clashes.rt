@@ -2,13 +2,12 @@
 ghost use Rattle.std.specs.Prelude.{◌≡◌, ◌<◌, ℕ, [], false, length, IfOk};
 ghost use Rattle.pw_defs.specs.declared.model.Model.{Model as PlainModel};
 ghost use Rattle.design_defs.specs.DesignFaults.{FaultKind};
-ghost use Rattle.design_defs.specs.Hierarchy.{Sources};
+ghost use Rattle.design_defs.specs.Hierarchy.{Sources, AreNamedInsts};
 ghost use Rattle.design_defs.specs.Inputs.{AreReadSources, IsReadModule};
 ghost use Rattle.design_defs.specs.Models.{HasWellFormedFields};
 ghost use Rattle.list_defs.specs.Members.{IsIn};
 ghost use Rattle.module_rows.specs.Reads.{module_at};
 ghost use Rattle.net_hierarchy.specs.Ordered.{HasNoneOf};
-ghost use Rattle.net_instances.specs.Instances.{AreNamedInsts};
 ghost use Rattle.net_names.specs.Apart.{AreApart, inst_names};
 ghost use Rattle.net_names.specs.Bodies.{HasMarks};
 

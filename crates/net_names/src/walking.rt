@@ -1,8 +1,8 @@
 //! All names of a hierarchy, met instance by instance.
 ghost use Rattle.std.specs.Prelude.{◌≡◌, ◌<◌, ◌↔◌, IfOk, IfSome, IsTrue, Some, length, slice_get};
-ghost use Rattle.design_defs.specs.Hierarchy.{Sources};
+ghost use Rattle.design_defs.specs.Hierarchy.{Sources, AreNamedInsts};
 ghost use Rattle.design_defs.specs.Inputs.{AreReadSources};
-ghost use Rattle.net_instances.specs.Instances.{AreInstances, AreNamedInsts};
+ghost use Rattle.net_instances.specs.Instances.{AreInstances};
 ghost use Rattle.net_names.specs.Things.{HasMet, IsBelow};
 ghost use Rattle.net_names.specs.Walking.{HasMetAt, HasMetInner, HasMetPorts, HasMetTop, IsLineIn, IsOwnPlace, IsPathBelow};
 ghost use Rattle.net_sizes.specs.declared.sizes.Counts.{Counts};

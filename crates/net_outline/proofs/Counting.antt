@@ -1,16 +1,15 @@
 -- The numbers of bodies' bits, and ones.
-use Rattle.std.proofs.Common.{◌≡◌, ℕ, ◌+◌, ◌<◌, ◌≤◌, ◌⊎◌, inl, inr, List, [], ◌∷◌, Option, None, Some, length, map, min, replicate, refl, sym, ap, ◌∙◌, subst, arith}
-use Rattle.std.specs.Prelude.{option_and_then, option_map, slice_get, slice_index, slice_index_or}
+use Rattle.std.proofs.Common.{◌≡◌, ℕ, ◌<◌, ◌≤◌, ◌⊎◌, inl, inr, List, [], ◌∷◌, Option, None, Some, length, map, min, replicate, refl, sym, ap, ◌∙◌, subst, arith}
+use Rattle.std.specs.Prelude.{option_and_then, option_map, slice_get, slice_index}
 use Rattle.std.specs.Cmp.{IsTotalOrder}
-use Rattle.std.specs.List.{range_with_len, sum_by}
+use Rattle.std.specs.List.{range_with_len}
 use Rattle.std.specs.declared.cmp.Ordering.{Ordering}
 use Rattle.std.specs.declared.cmp.Ordering.TheVariants.{Less}
 use Rattle.std.proofs.lemmas.Bool.{cases_lt}
 use Rattle.std.proofs.lemmas.Cmp.{nat_cmp_total, nat_list_cmp_total, on_total, then_total}
-use Rattle.std.proofs.lemmas.List.{get_or-replicate, get_or_past, length-map}
-use Rattle.std.proofs.lemmas.List.Sums.{sum_by-cons}
+use Rattle.std.proofs.lemmas.List.{get_or-replicate, get_or_past}
 use Rattle.std.proofs.lemmas.List.FromFn.{get_or-map-range_with_len}
-use Rattle.std.proofs.lemmas.Option.{slice_get_past, slice_get_within}
+use Rattle.std.proofs.lemmas.Option.{slice_get_within}
 use Rattle.pw_defs.specs.declared.cells.Cell.{Cell}
 use Rattle.pw_defs.specs.declared.cells.Cells.{Cells}
 use Rattle.pw_defs.specs.declared.design.Body.{Body}
@@ -22,10 +21,9 @@ use Rattle.list_defs.specs.Members.{IsIn}
 use Rattle.list_defs.specs.Orders.{IsRising}
 use Rattle.list_defs.proofs.Rising.{each_in, not_before_itself}
 use Rattle.design_defs.specs.Bits.{port_named, range_in}
-use Rattle.design_defs.specs.Hierarchy.{Sources, module_at, ports_in}
+use Rattle.design_defs.specs.Hierarchy.{Sources, module_at, ports_in, HasBody}
 use Rattle.design_defs.specs.Places.{net_range}
 use Rattle.design_defs.specs.Ports.{port_of_pin}
-use Rattle.design_defs.specs.Ranges.{width}
 use Rattle.design_defs.proofs.WalkEnds.{there_within}
 use Rattle.module_rows.specs.declared.plain.Netlist.{Netlist}
 use Rattle.net_outline.specs.declared.counts.BodyKind.{BodyKind}
@@ -34,12 +32,12 @@ use Rattle.net_outline.specs.Outline.{bits_at, body_of, own_places}
 use Rattle.net_places.specs.declared.plans.Plans.{Plans}
 use Rattle.net_places.specs.declared.rows.NetRow.{NetRow}
 use Rattle.net_places.specs.Gathered.{net_by}
-use Rattle.net_places.specs.Nets.{AreLocalBits, AreOwnNets, LocalBit, OwnNet, bit_count, local_bits, local_cmp}
+use Rattle.net_places.specs.Nets.{AreLocalBits, LocalBit, local_bits, local_cmp}
 use Rattle.net_places.specs.Plans.{ArePlans, IsOf, names_in, rows_at}
 use Rattle.net_places.specs.Tables.{bits_in}
-use Rattle.net_places.proofs.BitLaws.{local_bits_are, local_length}
+use Rattle.net_places.proofs.BitLaws.{local_bits_are, local_length, row_counts}
 use Rattle.net_sizes.specs.declared.sizes.Counts.{Counts}
-use Rattle.net_sizes.specs.Sizes.{AreCounted, AreOwnSpots, HasBit, HasBody, count_in, one_each}
+use Rattle.net_sizes.specs.Sizes.{AreCounted, AreOwnSpots, HasBit, count_in, one_each}
 use Rattle.net_sizes.specs.Under.{AllDiffer}
 
 -- what rises is different
@@ -53,13 +51,7 @@ local_total = then_total (on_total (λ (x : LocalBit). x.0) nat_list_cmp_total) 
 
 -- how many bits rows have
 rows_count : (names : List (List ℕ)) (rows : List NetRow) → length (local_bits (map (net_by names) rows)) ≡ bits_in rows
-rows_count names rows = local_length (map (net_by names) rows) ∙ counted rows
-  where
-    counted : (rows : List NetRow) → bit_count (map (net_by names) rows) ≡ bits_in rows
-    counted [] = refl
-    counted (row ∷ rows) =
-        sum_by-cons (λ (n : OwnNet). width n.range) (net_by names row) (map (net_by names) rows) ∙ ap (λ (n : ℕ). width row.range + n) (counted rows)
-        ∙ sym (sum_by-cons (λ (r : NetRow). width r.range) row rows)
+rows_count names rows = local_length (map (net_by names) rows) ∙ row_counts names rows
 
 -- a module, cell or model is there, or its number is past the end
 there_or_past : {X : Type 0} (f : X → List Port) (xs : List X) (n : ℕ) → ((ports : List Port) × (option_map f (slice_get xs n) ≡ Some ports)) ⊎ (length xs ≤ n)

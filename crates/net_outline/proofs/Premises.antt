@@ -4,14 +4,13 @@ use Rattle.pw_defs.specs.declared.netlist.Inst.{Inst}
 use Rattle.pw_defs.specs.declared.netlist.Net.{Net}
 use Rattle.pw_defs.specs.declared.netlist.Port.{Port}
 use Rattle.list_defs.proofs.Members.{IsIn-append_left, IsIn-append_right, IsIn-map, IsIn-slice_get}
-use Rattle.design_defs.specs.Hierarchy.{Sources}
+use Rattle.design_defs.specs.Hierarchy.{Sources, AreNamedInsts}
 use Rattle.design_defs.specs.Inputs.{AreReadSources, declared_names}
 use Rattle.design_defs.specs.Places.{exprs_in, names_alone}
 use Rattle.design_laws.specs.FullNames.{HaveFullNames}
-use Rattle.design_laws.proofs.LinkCases.{differ_behind}
 use Rattle.net_hierarchy.specs.Graph.{AreInstsApart}
-use Rattle.net_least.specs.Nearest.{AreInstsNamed}
 use Rattle.std.specs.List.{flat_map}
+use Rattle.list_defs.proofs.NameLemmas.{differ_behind}
 
 pub insts_apart : (s : Sources) → AreReadSources s → AreInstsApart s
 insts_apart s read n m is =
@@ -21,7 +20,7 @@ insts_apart s read n m is =
     let insts = map (λ (i : Inst). i.name) m.insts in
     differ_behind (ports ++ nets) insts differ
 
-pub insts_named : (s : Sources) → HaveFullNames s → AreInstsNamed s
+pub insts_named : (s : Sources) → HaveFullNames s → AreNamedInsts s
 insts_named s full n m i is one =
     let ports = map (λ (p : Port). p.name) m.ports in
     let nets = map (λ (w : Net). w.name) m.nets in

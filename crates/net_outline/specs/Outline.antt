@@ -1,9 +1,9 @@
 -- What is decided of a design on its modules alone.
-use Rattle.std.specs.Prelude.{◌≡◌, ℕ, List, Option, Some, map}
+use Rattle.std.specs.Prelude.{◌≡◌, ℕ, List, Some, map}
 use Rattle.pw_defs.specs.declared.design.Body.{Body}
 use Rattle.pw_defs.specs.declared.design.Body.TheVariants.{Module as ModuleBody, Cell as CellBody, Model as ModelBody}
 use Rattle.design_defs.specs.DesignFaults.{FaultKind}
-use Rattle.design_defs.specs.Hierarchy.{Sources, module_named}
+use Rattle.design_defs.specs.Hierarchy.{Sources, module_named, HasBody}
 use Rattle.module_rows.specs.declared.plain.Netlist.{Netlist}
 use Rattle.net_hierarchy.specs.Firstness.{HasNoneBefore}
 use Rattle.net_hierarchy.specs.Graph.{IsOrder, types_of}
@@ -13,7 +13,7 @@ use Rattle.net_places.specs.Nets.{LocalBit, local_bits}
 use Rattle.net_places.specs.Plans.{ArePlans, names_in, rows_at}
 use Rattle.net_places.specs.Tables.{bits_in}
 use Rattle.net_sizes.specs.declared.sizes.Counts.{Counts}
-use Rattle.net_sizes.specs.Sizes.{HasBody, count_in}
+use Rattle.net_sizes.specs.Sizes.{count_in}
 use Rattle.net_outline.specs.declared.counts.BodyKind.{BodyKind}
 use Rattle.net_outline.specs.declared.counts.BodyKind.TheVariants.{Module, Cell, Model}
 use Rattle.net_outline.specs.declared.outline.Outline.{Outline}

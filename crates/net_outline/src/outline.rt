@@ -1,13 +1,12 @@
 //! The outline of a design, or its first fault of names, types or size.
 ghost use Rattle.std.specs.Prelude.{◌≡◌, IfErr, IfOk, Some};
 ghost use Rattle.design_defs.specs.DesignFaults.{FaultKind};
-ghost use Rattle.design_defs.specs.Hierarchy.{Sources, module_named};
+ghost use Rattle.design_defs.specs.Hierarchy.{Sources, module_named, AreNamedInsts};
 ghost use Rattle.design_defs.specs.Inputs.{AreReadSources};
 ghost use Rattle.design_laws.specs.FullNames.{HaveFullNames};
 ghost use Rattle.net_hierarchy.specs.Firstness.{HasNoneBefore, IsCause};
 ghost use Rattle.net_hierarchy.specs.Graph.{AreInstsApart, IsOrder, types_of};
 ghost use Rattle.net_hierarchy.specs.Kinds.{AreKinds};
-ghost use Rattle.net_least.specs.Nearest.{AreInstsNamed};
 ghost use Rattle.net_outline.specs.Outline.{IsOutline};
 ghost use Rattle.net_places.specs.Plans.{ArePlans, IsOf};
 

@@ -17,7 +17,7 @@ use Rattle.pw_defs.specs.declared.netlist.Port.{Port}
 use Rattle.list_defs.specs.Members.{IsIn}
 use Rattle.list_defs.specs.Orders.{IsRising, name_cmp}
 use Rattle.list_defs.proofs.Members.{IsIn-flat_map, IsIn-flat_map_from, IsIn-map, IsIn-map_from}
-use Rattle.list_defs.proofs.Longer.{slice_get-append}
+use Rattle.list_defs.proofs.Longer.{slice_get-append, slice_get_behind}
 use Rattle.list_defs.proofs.Rising.{IsRising-append, each_in, not_before_itself}
 use Rattle.design_defs.specs.Bits.{IsSpot, Spot, range_in, spot_cmp}
 use Rattle.design_defs.specs.Hierarchy.{Sources, Way, body_at, number_named, ports_in, way_cmp}
@@ -132,12 +132,6 @@ module _ (s : Sources) (body : Body) (nets : List OwnNet) (are : AreOwnNets s bo
           IsIn-flat_map bits_of_net n nets x (are.all n own) (net_has_bit n x refl is.within)
 
 -- NUMBERS of things that stand one list after the other
-get_right : {X : Type 0} (xs ys : List X) (k : ℕ) → slice_get (xs ++ ys) (length xs + k) ≡ slice_get ys k
-get_right [] ys k = let same : 0 + k ≡ k = omega arith in ap (slice_get ys) same
-get_right (x ∷ xs) ys k =
-    let same : length (x ∷ xs) + k ≡ suc (length xs + k) = omega arith in
-    ap (slice_get (x ∷ (xs ++ ys))) same ∙ get_right xs ys k
-
 flat_at : {X Z : Type 0} (f : X → List Z) (xs : List X) (i : ℕ) (x : X) (k : ℕ) (z : Z) → slice_get xs i ≡ Some x → slice_get (f x) k ≡ Some z
     → slice_get (flat_map f xs) (sum_by (λ y. length (f y)) (take i xs) + k) ≡ Some z
 flat_at f [] i x k z at there = cc
@@ -150,7 +144,7 @@ flat_at f (y ∷ ys) (suc i) x k z at there =
     let cons : sum_by (λ w. length (f w)) (y ∷ take i ys) ≡ length (f y) + rest = sum_by-cons (λ w. length (f w)) y (take i ys) in
     let sums : length (f y) + rest + k ≡ length (f y) + (rest + k) = omega arith in
     let place : sum_by (λ w. length (f w)) (y ∷ take i ys) + k ≡ length (f y) + (rest + k) = ap (λ (n : ℕ). n + k) cons ∙ sums in
-    ap (slice_get (f y ++ flat_map f ys)) place ∙ get_right (f y) (flat_map f ys) (rest + k) ∙ flat_at f ys i x k z at there
+    ap (slice_get (f y ++ flat_map f ys)) place ∙ slice_get_behind (f y) (flat_map f ys) (rest + k) ∙ flat_at f ys i x k z at there
 
 same_sums : {X : Type 0} (f g : X → ℕ) (xs : List X) → ((x : X) → f x ≡ g x) → sum_by f xs ≡ sum_by g xs
 same_sums f g [] same = refl
@@ -159,6 +153,13 @@ same_sums f g (x ∷ xs) same =
 
 net_length : (n : OwnNet) → length (bits_of_net n) ≡ width n.range
 net_length n = length-map-range_with_len (bit_of n) 0 (width n.range)
+
+-- nets have as many bits as their rows
+pub row_counts : (names : List (List ℕ)) (rows : List NetRow) → bit_count (map (net_by names) rows) ≡ bits_in rows
+row_counts names [] = refl
+row_counts names (row ∷ rows) =
+    sum_by-cons (λ (n : OwnNet). width n.range) (net_by names row) (map (net_by names) rows) ∙ ap (λ (n : ℕ). width row.range + n) (row_counts names rows)
+    ∙ sym (sum_by-cons (λ (r : NetRow). width r.range) row rows)
 
 pub local_length : (nets : List OwnNet) → length (local_bits nets) ≡ bit_count nets
 local_length nets = length-flat_map bits_of_net nets ∙ same_sums (λ n. length (bits_of_net n)) (λ n. width n.range) nets net_length

@@ -1,5 +1,5 @@
 -- The row of a name is found by halves.
-use Rattle.std.proofs.Common.{◌≡◌, ℕ, zero, suc, ◌+◌, ◌<◌, ◌≤◌, ◌⊎◌, inl, inr, Bool, true, false, List, [], ◌∷◌, length, map, refl, sym, ap, ◌∙◌, subst, arith}
+use Rattle.std.proofs.Common.{◌≡◌, ℕ, ◌+◌, ◌<◌, ◌≤◌, ◌⊎◌, inl, inr, Bool, true, false, List, [], length, map, refl, sym, ap, ◌∙◌, arith}
 use Rattle.std.specs.Prelude.{Option, Some, None, option_map, option_and_then, slice_get, slice_index_or}
 use Rattle.std.specs.declared.cmp.Ordering.{Ordering}
 use Rattle.std.specs.declared.cmp.Ordering.TheVariants.{Less, Equal, Greater}
@@ -13,11 +13,11 @@ use Rattle.pw_defs.specs.declared.design.Body.{Body}
 use Rattle.pw_defs.specs.declared.design.Body.TheVariants.{Module as ModuleBody, Cell as CellBody, Model as ModelBody}
 use Rattle.pw_defs.specs.declared.model.Model.{Model}
 use Rattle.pw_defs.specs.declared.netlist.Port.{Port}
-use Rattle.list_defs.specs.Orders.{IsRising, name_cmp}
+use Rattle.list_defs.specs.Orders.{name_cmp}
 use Rattle.list_defs.proofs.Few.{place_of_member}
-use Rattle.list_defs.proofs.Members.{IsIn-map_from, IsIn-slice_get}
+use Rattle.list_defs.proofs.Members.{IsIn-map_from}
 use Rattle.list_defs.proofs.NameLemmas.{same_name-equal, same_name-itself}
-use Rattle.list_defs.proofs.Rising.{each_in}
+use Rattle.list_defs.proofs.Rising.{rising_at}
 use Rattle.design_defs.specs.Bits.{range_in}
 use Rattle.design_defs.specs.Hierarchy.{Sources, number_named, ports_in}
 use Rattle.design_defs.specs.Ports.{port_of_pin}
@@ -45,17 +45,6 @@ pin_spelled cells c pin cell p at_cell at_pin =
     ap (λ (o : Option Cell). slice_get (port_names (option_map (λ (x : Cell). map port_of_pin x.pins) o)) pin) at_cell
     ∙ slice_get-map (λ (q : Port). q.name) (map port_of_pin cell.pins) pin
     ∙ ap (option_map (λ (q : Port). q.name)) (slice_get-map port_of_pin cell.pins pin ∙ ap (option_map port_of_pin) at_pin)
-
--- of two places of a rising list the first has what comes before
-pub rising_at : {X : Type 0} (cmp : X → X → Ordering) (xs : List X) → IsRising cmp xs → (i j : ℕ) (x y : X) → i < j → slice_get xs i ≡ Some x → slice_get xs j ≡ Some y
-    → cmp x y ≡ Less
-rising_at cmp [] rising i j x y before e f = cc
-rising_at cmp (z ∷ zs) rising zero zero x y before e f = absurd (omega arith)
-rising_at cmp (z ∷ zs) rising zero (suc j) x y before e f =
-    let same : z ≡ x = cc in
-    subst (λ w. cmp w y ≡ Less) same (each_in (λ w. cmp z w ≡ Less) zs y rising.0 (IsIn-slice_get zs j y f))
-rising_at cmp (z ∷ zs) rising (suc i) zero x y before e f = absurd (omega arith)
-rising_at cmp (z ∷ zs) rising (suc i) (suc j) x y before e f = rising_at cmp zs rising.1 i j x y (omega arith) e f
 
 -- what is owned under a name has the name
 pub own_named : (s : Sources) (body : Body) (name : List ℕ) (n : OwnNet) → own_net s body name ≡ Some n → n.name ≡ name

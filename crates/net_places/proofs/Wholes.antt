@@ -12,7 +12,7 @@ use Rattle.pw_defs.specs.declared.model.Model.{Model}
 use Rattle.pw_defs.specs.declared.netlist.Module.{Module}
 use Rattle.pw_defs.specs.declared.netlist.Port.{Port}
 use Rattle.design_defs.specs.Bits.{port_named}
-use Rattle.design_defs.specs.Hierarchy.{Sources, number_named, ports_in}
+use Rattle.design_defs.specs.Hierarchy.{Sources, number_named, ports_in, HasBody}
 use Rattle.design_defs.specs.Places.{net_range}
 use Rattle.design_defs.specs.Ports.{port_of_pin}
 use Rattle.module_rows.specs.declared.plain.Netlist.{Netlist}
@@ -21,7 +21,7 @@ use Rattle.module_rows.specs.Reads.{module_at}
 use Rattle.net_places.specs.declared.plans.Plans.{Plans}
 use Rattle.net_places.specs.declared.rows.NetRow.{NetRow}
 use Rattle.net_places.specs.Nets.{OwnNet, net_among, net_in, own_net}
-use Rattle.net_places.specs.Plans.{ArePlans, HasBody, IsOf, names_in, port_names, rows_at}
+use Rattle.net_places.specs.Plans.{ArePlans, IsOf, names_in, port_names, rows_at}
 use Rattle.net_places.specs.Tables.{IsPlanOf}
 
 -- a list of bodies with one more

@@ -5,7 +5,7 @@ use Rattle.pw_defs.specs.declared.design.Body.{Body}
 use Rattle.pw_defs.specs.declared.design.Body.TheVariants.{Module as ModuleBody, Cell as CellBody, Model as ModelBody}
 use Rattle.pw_defs.specs.declared.model.Model.{Model}
 use Rattle.pw_defs.specs.declared.netlist.Port.{Port}
-use Rattle.design_defs.specs.Hierarchy.{Sources, ports_in}
+use Rattle.design_defs.specs.Hierarchy.{Sources, ports_in, HasBody}
 use Rattle.module_rows.specs.declared.plain.Netlist.{Netlist}
 use Rattle.net_places.specs.declared.plans.Plans.{Plans}
 use Rattle.net_places.specs.declared.rows.NetRow.{NetRow}
@@ -28,10 +28,6 @@ abbrev pub rows_at : Plans → Body → List NetRow
 rows_at p (ModuleBody m) = slice_index_or p.modules m []
 rows_at p (CellBody c) = slice_index_or p.cells c []
 rows_at p (ModelBody m) = slice_index_or p.models m []
-
--- there is such a module, cell or model
-abbrev pub HasBody : Sources → Body → Type 0
-HasBody s b = (ports : List Port) × (ports_in s b ≡ Some ports)
 
 -- modules, cells and models have their rows
 pub record ArePlans (s : Sources) (symbols : List (List ℕ)) (p : Plans) : Type 0 where

@@ -1,10 +1,10 @@
 //! The net of a name among the nets of a body.
 ghost use Rattle.std.specs.Prelude.{◌≡◌, ◌≤◌, [], length, option_map, slice_get};
 ghost use Rattle.pw_defs.specs.declared.design.Body.TheVariants.{Cell as CellBody, Model as ModelBody};
-ghost use Rattle.design_defs.specs.Hierarchy.{Sources};
+ghost use Rattle.design_defs.specs.Hierarchy.{Sources, HasBody};
 ghost use Rattle.design_defs.specs.Ports.{ports_among};
 ghost use Rattle.net_places.specs.Finding.{is_before, is_same, names_among, row_before, row_name, IsRowNumber, IsSplit, PassesInFront};
-ghost use Rattle.net_places.specs.Plans.{port_names, rows_at, ArePlans, HasBody, IsOf};
+ghost use Rattle.net_places.specs.Plans.{port_names, rows_at, ArePlans, IsOf};
 
 use crate::plans::Plans;
 use module_rows::Modules;

@@ -1,8 +1,8 @@
 //! The net of a name, in any body.
 ghost use Rattle.std.specs.Prelude.{◌≡◌, MatchOption, None};
-ghost use Rattle.design_defs.specs.Hierarchy.{Sources};
+ghost use Rattle.design_defs.specs.Hierarchy.{Sources, HasBody};
 ghost use Rattle.net_places.specs.Nets.{own_net};
-ghost use Rattle.net_places.specs.Plans.{ArePlans, HasBody, IsOf};
+ghost use Rattle.net_places.specs.Plans.{ArePlans, IsOf};
 ghost use Rattle.net_runs.specs.Known.{IsNetRow};
 
 use net_places::{NetRow, Plans, Spellings};

@@ -1,7 +1,6 @@
 -- The sums over the types of instances are the numbers of all things below modules.
 use Rattle.std.proofs.Common.{◌≡◌, ◌≢◌, ℕ, ◌+◌, ◌<◌, ◌⊎◌, Bool, true, false, eqb, ◌||◌, List, [], ◌∷◌, ◌++◌, Option, None, Some, option_map, option_and_then, length, map, min, sum, set, slice_index, inl, inr, refl, sym, ap, ◌∙◌, subst, arith, length-append, get_or-set_other, get_or-set_same}
 use Rattle.std.specs.List.{flat_map, list_any}
-use Rattle.std.specs.Option.{option_or}
 use Rattle.std.proofs.lemmas.Bool.{eqb-true, eq-eqb, or_cases, false≢true}
 use Rattle.std.proofs.lemmas.List.{length-map}
 use Rattle.std.proofs.lemmas.List.Sums.{sum_by-cons}
@@ -10,16 +9,13 @@ use Rattle.list_defs.specs.Members.{IsIn, same_name}
 use Rattle.list_defs.proofs.Members.{IsIn-append_cases, IsIn-map, IsIn-map_from}
 use Rattle.pw_defs.specs.declared.design.Body.{Body}
 use Rattle.pw_defs.specs.declared.design.Body.TheVariants.{Module as ModuleBody, Cell as CellBody, Model as ModelBody}
-use Rattle.pw_defs.specs.declared.cells.Cell.{Cell}
-use Rattle.pw_defs.specs.declared.model.Model.{Model}
 use Rattle.pw_defs.specs.declared.netlist.Inst.{Inst}
 use Rattle.pw_defs.specs.declared.netlist.Module.{Module}
 use Rattle.design_defs.specs.Bits.{Spot}
-use Rattle.design_defs.specs.Hierarchy.{Sources, body_inside, cell_named, model_named, module_at, module_named, type_of}
-use Rattle.design_defs.specs.Ports.{port_of_pin}
+use Rattle.design_defs.specs.Hierarchy.{Sources, body_inside, module_at, module_named, type_of, HasBody}
 use Rattle.design_defs.proofs.WalkEnds.{there_within}
 use Rattle.net_hierarchy.specs.Graph.{AreInstsApart, Holds, Leads, types_of}
-use Rattle.net_sizes.specs.Sizes.{AreCounted, AreSized, HasBody, IsSized, or_none, part_in, row_in}
+use Rattle.net_sizes.specs.Sizes.{AreCounted, AreSized, IsSized, or_none, part_in, row_in}
 use Rattle.net_sizes.specs.Under.{AllDiffer, AreUnder, HasUnder, IsUnder, Own}
 use Rattle.net_hierarchy.specs.Below.{body_below}
 use Rattle.net_sizes.specs.declared.sizes.Counts.{Counts}
@@ -28,6 +24,7 @@ use Rattle.net_hierarchy.proofs.Below.{below_first, snoc_view}
 use Rattle.list_defs.proofs.NameLemmas.{place_of-within}
 use Rattle.net_hierarchy.proofs.Places.{same_or_not}
 use Rattle.net_hierarchy.proofs.Ways.{holds_by, line_of_row}
+use Rattle.design_defs.proofs.BodiesThere.{type_there}
 
 -- BODIES that there are.
 module_there : (s : Sources) (n : ℕ) (m : Module) → module_at s n ≡ Some m → HasBody s (ModuleBody n)
@@ -39,32 +36,6 @@ module_of_body s n has = by (module_at s n) refl has.1
     by : (o : Option Module) → module_at s n ≡ o → option_map (λ (x : Module). x.ports) o ≡ Some has.0 → (m : Module) × (module_at s n ≡ Some m)
     by None none e = cc
     by (Some m) there e = (m, there)
-
--- what a type stands for is there
-type_there : (s : Sources) (kind : List ℕ) (b : Body) → type_of s kind ≡ Some b → HasBody s b
-type_there s kind b e = by (model_named s kind) refl (module_named s kind) refl (cell_named s kind) refl e
-  where
-    of_model : (n : ℕ) → model_named s kind ≡ Some n → HasBody s (ModelBody n)
-    of_model n at =
-        let there = there_within s.models n (place_of-within (λ (x : Model). same_name kind x.module) s.models n at) in
-        (there.0.ports, ap (option_map (λ (x : Model). x.ports)) there.1)
-
-    of_module : (n : ℕ) → module_named s kind ≡ Some n → HasBody s (ModuleBody n)
-    of_module n at =
-        let there = there_within s.modules n (place_of-within (λ (x : Module). same_name kind x.name) s.modules n at) in
-        module_there s n there.0 there.1
-
-    of_cell : (n : ℕ) → cell_named s kind ≡ Some n → HasBody s (CellBody n)
-    of_cell n at =
-        let there = there_within s.cells.cells n (place_of-within (λ (x : Cell). same_name kind x.name) s.cells.cells n at) in
-        (map port_of_pin there.0.pins, ap (option_map (λ (x : Cell). map port_of_pin x.pins)) there.1)
-
-    by : (model : Option ℕ) → model_named s kind ≡ model → (module_ : Option ℕ) → module_named s kind ≡ module_ → (cell : Option ℕ) → cell_named s kind ≡ cell
-        → option_or (option_map ModelBody model) (option_or (option_map ModuleBody module_) (option_map CellBody cell)) ≡ Some b → HasBody s b
-    by (Some n) at o p q r h = subst (HasBody s) (same_Some (ModelBody n) b h) (of_model n at)
-    by None at (Some n) p q r h = subst (HasBody s) (same_Some (ModuleBody n) b h) (of_module n p)
-    by None at None p (Some n) r h = subst (HasBody s) (same_Some (CellBody n) b h) (of_cell n r)
-    by None at None p None r h = cc
 
 -- SUMS that are the same as far as they are below a number.
 min_more : (most a b c d : ℕ) → min most a ≡ min most b → min most c ≡ min most d → min most (a + c) ≡ min most (b + d)

@@ -2,10 +2,9 @@
 use Rattle.std.specs.Prelude.{◌≡◌, ◌<◌, ℕ, List, [], ◌∷◌, Option, Some, None, length, min, slice_get, slice_index}
 use Rattle.pw_defs.specs.declared.design.Body.{Body}
 use Rattle.pw_defs.specs.declared.design.Body.TheVariants.{Module as ModuleBody, Cell as CellBody, Model as ModelBody}
-use Rattle.pw_defs.specs.declared.netlist.Port.{Port}
 use Rattle.list_defs.specs.Members.{IsIn}
 use Rattle.design_defs.specs.Bits.{range_in}
-use Rattle.design_defs.specs.Hierarchy.{Sources, ports_in}
+use Rattle.design_defs.specs.Hierarchy.{Sources, HasBody}
 use Rattle.design_defs.specs.Ranges.{width}
 use Rattle.net_hierarchy.specs.Graph.{Types}
 use Rattle.net_sizes.specs.Under.{AllDiffer, HasUnder, Own}
@@ -32,10 +31,6 @@ abbrev pub count_in : Counts → Body → ℕ
 count_in counts (ModuleBody n) = slice_index counts.modules.items n
 count_in counts (CellBody n) = slice_index counts.cells.items n
 count_in counts (ModelBody n) = slice_index counts.models.items n
-
--- there is such a module, cell or model
-abbrev pub HasBody : Sources → Body → Type 0
-HasBody s b = (ports : List Port) × (ports_in s b ≡ Some ports)
 
 -- The numbers are those of the things that each body has by itself, where there are fewer than so many.
 pub record AreCounted (s : Sources) (own : Own) (counts : Counts) (most : ℕ) : Type 0 where

@@ -1,53 +1,22 @@
 -- The ports of types, found among the nets of bodies.
-use Rattle.std.proofs.Common.{◌≡◌, ℕ, suc, Bool, true, false, cond, List, [], ◌∷◌, map, Option, None, Some, refl, sym, ap, ◌∙◌, subst}
+use Rattle.std.proofs.Common.{◌≡◌, ℕ, suc, Bool, true, false, cond, List, [], ◌∷◌, Option, None, Some, refl, sym, ap, ◌∙◌, subst}
 use Rattle.std.specs.Prelude.{option_map, option_and_then}
-use Rattle.std.specs.Option.{option_or}
 use Rattle.std.specs.List.{find}
-use Rattle.std.proofs.lemmas.Option.{same_Some}
-use Rattle.pw_defs.specs.declared.cells.Cell.{Cell}
 use Rattle.pw_defs.specs.declared.design.Body.{Body}
-use Rattle.pw_defs.specs.declared.design.Body.TheVariants.{Module as ModuleBody, Cell as CellBody, Model as ModelBody}
-use Rattle.pw_defs.specs.declared.model.Model.{Model}
 use Rattle.pw_defs.specs.declared.netlist.Conn.{Conn}
 use Rattle.pw_defs.specs.declared.netlist.Inst.{Inst}
-use Rattle.pw_defs.specs.declared.netlist.Module.{Module}
 use Rattle.pw_defs.specs.declared.netlist.Port.{Port}
 use Rattle.list_defs.specs.Members.{place_of, same_name}
 use Rattle.design_defs.specs.Bits.{port_named, range_in}
-use Rattle.design_defs.specs.Hierarchy.{Sources, cell_named, model_named, module_at, module_named, number_named, ports_in, type_of}
+use Rattle.design_defs.specs.Hierarchy.{Sources, number_named, ports_in, type_of}
 use Rattle.design_defs.specs.Links.{port_of_conn}
-use Rattle.design_defs.specs.Places.{net_range}
-use Rattle.design_defs.specs.Ports.{port_of_pin}
 use Rattle.design_defs.specs.Ranges.{width}
-use Rattle.net_hierarchy.proofs.NamesApart.{place_at}
 use Rattle.net_places.specs.Nets.{OwnNet, own_net}
-use Rattle.net_places.specs.Plans.{HasBody}
 use Rattle.net_least.specs.declared.own.OwnFault.{OwnFault}
 use Rattle.net_widths.specs.Ports.{width_if_port, width_of_port}
 use Rattle.net_widths.specs.Refusals.{Finds, at_one_line, ports_of_conn, without_port}
 use Rattle.net_widths.specs.Sides.{refused}
-
--- what a type stands for is there
-pub type_there : (s : Sources) (kind : List ℕ) (b : Body) → type_of s kind ≡ Some b → HasBody s b
-type_there s kind b e = by (model_named s kind) refl (module_named s kind) refl (cell_named s kind) refl e
-  where
-    of_model : (n : ℕ) → model_named s kind ≡ Some n → HasBody s (ModelBody n)
-    of_model n at = let there = place_at (λ (x : Model). same_name kind x.module) s.models n at in (there.0.ports, ap (option_map (λ (x : Model). x.ports)) there.1)
-
-    of_module : (n : ℕ) → module_named s kind ≡ Some n → HasBody s (ModuleBody n)
-    of_module n at = let there = place_at (λ (x : Module). same_name kind x.name) s.modules n at in (there.0.ports, ap (option_map (λ (x : Module). x.ports)) there.1)
-
-    of_cell : (n : ℕ) → cell_named s kind ≡ Some n → HasBody s (CellBody n)
-    of_cell n at =
-        let there = place_at (λ (x : Cell). same_name kind x.name) s.cells.cells n at in
-        (map port_of_pin there.0.pins, ap (option_map (λ (x : Cell). map port_of_pin x.pins)) there.1)
-
-    by : (model : Option ℕ) → model_named s kind ≡ model → (module_ : Option ℕ) → module_named s kind ≡ module_ → (cell : Option ℕ) → cell_named s kind ≡ cell
-        → option_or (option_map ModelBody model) (option_or (option_map ModuleBody module_) (option_map CellBody cell)) ≡ Some b → HasBody s b
-    by (Some n) at o p q r h = subst (HasBody s) (same_Some (ModelBody n) b h) (of_model n at)
-    by None at (Some n) p q r h = subst (HasBody s) (same_Some (ModuleBody n) b h) (of_module n p)
-    by None at None p (Some n) r h = subst (HasBody s) (same_Some (CellBody n) b h) (of_cell n r)
-    by None at None p None r h = cc
+use Rattle.design_defs.proofs.BodiesThere.{type_there, found_range}
 
 -- the first that passes a test has a place
 found_place : {X : Type 0} (test : X → Bool) (xs : List X) (x : X) → find test xs ≡ Some x → (k : ℕ) × (place_of test xs ≡ Some k)
@@ -66,22 +35,6 @@ not_found {X} test (y ∷ ys) h = by (test y) (not_found test ys) h
     by : (b : Bool) → (find test ys ≡ None → place_of test ys ≡ None) → cond b (Some y) (find test ys) ≡ None → cond b (Some 0) (option_map suc (place_of test ys)) ≡ None
     by true rest h = cc
     by false rest h = ap (option_map suc) (rest h)
-
--- the range under the name of a port is that of the port
-found_range : (s : Sources) (body : Body) (ports : List Port) (name : List ℕ) (p : Port) → ports_in s body ≡ Some ports → port_named name ports ≡ Some p
-    → range_in s body name ≡ Some p.range
-found_range s (ModuleBody n) ports name p are found = by (module_at s n) are
-  where
-    of_net : (m : Module) → m.ports ≡ ports → net_range m name ≡ Some p.range
-    of_net m same = let first : find (λ (q : Port). same_name name q.name) m.ports ≡ Some p = ap (port_named name) same ∙ found in rw first refl
-
-    by : (o : Option Module) → option_map (λ (x : Module). x.ports) o ≡ Some ports → option_and_then (λ (x : Module). net_range x name) o ≡ Some p.range
-    by None h = cc
-    by (Some m) h = of_net m (same_Some m.ports ports h)
-found_range s (CellBody c) ports name p are found =
-    ap (λ o. option_map (λ (q : Port). q.range) (option_and_then (port_named name) o)) are ∙ ap (option_map (λ (q : Port). q.range)) found
-found_range s (ModelBody c) ports name p are found =
-    ap (λ o. option_map (λ (q : Port). q.range) (option_and_then (port_named name) o)) are ∙ ap (option_map (λ (q : Port). q.range)) found
 
 -- how many bits a net has, where it is a port
 abbrev own_width : Option OwnNet → Option ℕ

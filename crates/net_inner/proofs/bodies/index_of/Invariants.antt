@@ -1,6 +1,5 @@
 use Rattle.std.proofs.Common.{◌≡◌, map, take}
-use Rattle.design_defs.specs.Hierarchy.{Sources}
-use Rattle.net_places.specs.Plans.{HasBody}
+use Rattle.design_defs.specs.Hierarchy.{Sources, HasBody}
 use Rattle.net_inner.specs.Inside.{HasPlans, local_name, nets_in}
 use Rattle.net_places.specs.Nets.{local_bits}
 use Rattle.net_inner.proofs.bodies.index_of.Given as goal

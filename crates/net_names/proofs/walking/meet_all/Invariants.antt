@@ -1,7 +1,7 @@
 use Rattle.std.proofs.Common.{◌≡◌}
-use Rattle.design_defs.specs.Hierarchy.{Sources}
+use Rattle.design_defs.specs.Hierarchy.{Sources, AreNamedInsts}
 use Rattle.design_defs.specs.Inputs.{AreReadSources}
-use Rattle.net_instances.specs.Instances.{AreInstances, AreNamedInsts}
+use Rattle.net_instances.specs.Instances.{AreInstances}
 use Rattle.net_sizes.specs.declared.sizes.Counts.{Counts}
 use Rattle.net_names.proofs.Walks.{IsMetTo}
 use Rattle.net_names.proofs.walking.meet_all.Given as goal

@@ -1,8 +1,9 @@
 use Rattle.std.proofs.Common.{◌≡◌, Some, sym, ◌∙◌, subst}
 use Rattle.std.proofs.lemmas.Option.{same_Some}
 use Rattle.net_places.specs.Nets.{own_net}
-use Rattle.net_widths.proofs.PortLemmas.{net_port_width, type_there}
+use Rattle.net_widths.proofs.PortLemmas.{net_port_width}
 use Rattle.net_widths.proofs.ports.port_width.Goals as goal
+use Rattle.design_defs.proofs.BodiesThere.{type_there}
 
 pub returns : goal.returns
 returns c = λ s kind spelling seen type named.

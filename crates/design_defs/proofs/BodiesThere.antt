@@ -1,5 +1,5 @@
--- What is at the end of a way is one of the modules, cells and models.
-use Rattle.std.proofs.Common.{◌≡◌, ℕ, List, [], ◌∷◌, Option, None, Some, option_map, map, refl, ap, subst}
+-- What a type stands for, and what is at the end of a way, is one of the modules, cells and models.
+use Rattle.std.proofs.Common.{◌≡◌, ℕ, List, [], ◌∷◌, Option, None, Some, option_map, map, refl, ap, subst, ◌∙◌}
 use Rattle.std.specs.Option.{option_or}
 use Rattle.std.proofs.lemmas.Option.{same_Some}
 use Rattle.pw_defs.specs.declared.cells.Cell.{Cell}
@@ -9,11 +9,15 @@ use Rattle.pw_defs.specs.declared.model.Model.{Model}
 use Rattle.pw_defs.specs.declared.netlist.Module.{Module}
 use Rattle.list_defs.specs.Members.{same_name}
 use Rattle.list_defs.proofs.NameLemmas.{place_of-within}
-use Rattle.design_defs.specs.Hierarchy.{Sources, Way, body_at, cell_named, model_named, module_named, type_of}
+use Rattle.design_defs.specs.Hierarchy.{HasBody, Sources, Way, body_at, cell_named, model_named, module_named, type_of, module_at, ports_in}
 use Rattle.design_defs.specs.Ports.{port_of_pin}
 use Rattle.design_defs.proofs.Lookups.{at_outer}
 use Rattle.design_defs.proofs.WalkEnds.{there_within}
-use Rattle.net_places.specs.Plans.{HasBody}
+use Rattle.std.specs.List.{find}
+use Rattle.std.specs.Prelude.{option_and_then}
+use Rattle.pw_defs.specs.declared.netlist.Port.{Port}
+use Rattle.design_defs.specs.Bits.{port_named, range_in}
+use Rattle.design_defs.specs.Places.{net_range}
 
 module _ (s : Sources) where
   model_there : (name : List ℕ) (n : ℕ) → model_named s name ≡ Some n → HasBody s (ModelBody n)
@@ -21,7 +25,7 @@ module _ (s : Sources) where
       let there = there_within s.models n (place_of-within (λ (x : Model). same_name name x.module) s.models n at) in
       (there.0.ports, ap (option_map (λ (x : Model). x.ports)) there.1)
 
-  module_there : (name : List ℕ) (n : ℕ) → module_named s name ≡ Some n → HasBody s (ModuleBody n)
+  pub module_there : (name : List ℕ) (n : ℕ) → module_named s name ≡ Some n → HasBody s (ModuleBody n)
   module_there name n at =
       let there = there_within s.modules n (place_of-within (λ (x : Module). same_name name x.name) s.modules n at) in
       (there.0.ports, ap (option_map (λ (x : Module). x.ports)) there.1)
@@ -32,7 +36,7 @@ module _ (s : Sources) where
       (map port_of_pin there.0.pins, ap (option_map (λ (x : Cell). map port_of_pin x.pins)) there.1)
 
   -- what a type stands for is there
-  type_there : (kind : List ℕ) (b : Body) → type_of s kind ≡ Some b → HasBody s b
+  pub type_there : (kind : List ℕ) (b : Body) → type_of s kind ≡ Some b → HasBody s b
   type_there kind b e = by (model_named s kind) refl (module_named s kind) refl (cell_named s kind) refl e
     where
       by : (model : Option ℕ) → model_named s kind ≡ model → (module_ : Option ℕ) → module_named s kind ≡ module_ → (cell : Option ℕ) → cell_named s kind ≡ cell
@@ -50,3 +54,19 @@ module _ (s : Sources) where
       by None none h = cc
       by (Some n) at h = subst (HasBody s) (same_Some (ModuleBody n) b h) (module_there s.top n at)
   body_there (name ∷ outer) b is = let inside = (at_outer s name outer b is).2 in type_there inside.inst.kind b inside.is_type
+
+-- the range under the name of a port is that of the port
+pub found_range : (s : Sources) (body : Body) (ports : List Port) (net : List ℕ) (p : Port) → ports_in s body ≡ Some ports → port_named net ports ≡ Some p
+    → range_in s body net ≡ Some p.range
+found_range s (ModuleBody n) ports net p are found = by (module_at s n) are
+  where
+    of_net : (m : Module) → m.ports ≡ ports → net_range m net ≡ Some p.range
+    of_net m same = let first : find (λ (q : Port). same_name net q.name) m.ports ≡ Some p = ap (port_named net) same ∙ found in rw first refl
+
+    by : (o : Option Module) → option_map (λ (x : Module). x.ports) o ≡ Some ports → option_and_then (λ (x : Module). net_range x net) o ≡ Some p.range
+    by None h = cc
+    by (Some m) h = of_net m (same_Some m.ports ports h)
+found_range s (CellBody c) ports net p are found =
+    ap (λ o. option_map (λ (q : Port). q.range) (option_and_then (port_named net) o)) are ∙ ap (option_map (λ (q : Port). q.range)) found
+found_range s (ModelBody c) ports net p are found =
+    ap (λ o. option_map (λ (q : Port). q.range) (option_and_then (port_named net) o)) are ∙ ap (option_map (λ (q : Port). q.range)) found

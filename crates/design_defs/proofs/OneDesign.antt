@@ -1,5 +1,5 @@
 -- Modules, cells and models below a top have at most one fault that comes first, or make at most one design, and not both.
-use Rattle.std.proofs.Common.{◌≡◌, ◌≢◌, ℕ, Bool, true, false, not, ◌&&◌, List, [], ◌∷◌, Option, Some, None, option_and_then, inl, inr, refl, sym, ap, ◌∙◌, subst}
+use Rattle.std.proofs.Common.{◌≡◌, ◌≢◌, ℕ, Bool, true, false, not, ◌&&◌, List, [], ◌∷◌, Option, Some, None, option_and_then, inl, inr, refl, sym, ap, ◌∙◌, subst, ◌<◌, arith}
 use Rattle.std.specs.List.{AllZip, slice_get}
 use Rattle.std.specs.Ordering.{nat_cmp, ordering_reverse}
 use Rattle.std.specs.declared.cmp.Ordering.{Ordering}
@@ -20,7 +20,7 @@ use Rattle.pw_defs.specs.declared.model.Model.{Model}
 use Rattle.pw_defs.specs.declared.netlist.Module.{Module}
 use Rattle.list_defs.specs.Members.{IsIn}
 use Rattle.design_defs.specs.Bits.{HasSpotName, IsSpot, Spot, port_bit_of, spot_cmp}
-use Rattle.design_defs.specs.DesignFaults.{Fault, FaultKind, HasDesignFault, HasFirstFault, IsDesignOf, IsFault, IsFaultless, answer_of, at_line, fault_cmp, place_cmp, place_of_fault, sources}
+use Rattle.design_defs.specs.DesignFaults.{Fault, FaultKind, HasDesignFault, HasFirstFault, IsDesignOf, IsFault, IsFaultless, answer_of, at_line, fault_cmp, place_cmp, place_of_fault, sources, HasNoneBefore, kind_number}
 use Rattle.design_defs.specs.Designs.{begins_signal_at, IsBitAt, IsFeederOf, IsInstanceAt, IsLinked, IsMadeFrom, IsParentOf, IsPlainBit, parts_of, passes_on_at}
 use Rattle.design_defs.specs.Drivers.{asked_at, begins_signal_in, is_interface_cell, passes_on_in}
 use Rattle.design_defs.specs.Hierarchy.{IsInstance, Sources, Way, body_at, path, way_cmp}
@@ -51,28 +51,36 @@ same_link s way other number other_number line other_line x y a b ways numbers k
     sym k.source_there ∙ from ∙ l.source_there
 
 -- a bit that there is has a name
-spot_name : (s : Sources) (x : Spot) → IsSpot s x → (name : List ℕ) × HasSpotName s x name
+pub spot_name : (s : Sources) (x : Spot) → IsSpot s x → (name : List ℕ) × HasSpotName s x name
 spot_name s x there = (joined (path x.way) (bit_name x.net there.0 x.place), (there.0, there.1, refl))
 
--- in a design without faults no two links feed one bit
-two_links : (s : Sources) → IsFaultless s → (x : Spot) → IsSpot s x → (way other : Way) (number other_number line other_line : ℕ) (a b : Option Spot)
+-- there is no fault of a kind before rings
+pub no_early : (s : Sources) → HasNoneBefore FaultKind.wire_loop s → (f : Fault) → IsFault s f → kind_number f.kind < 9 → ⊥
+no_early s early f is below = let late = early f is in omega (arith, late, below)
+
+-- where nothing is wrong no fault comes before rings
+pub early_of : (s : Sources) → IsFaultless s → HasNoneBefore FaultKind.wire_loop s
+early_of s faultless f is = absurd (faultless f is)
+
+-- where no fault comes before rings no two links feed one bit
+two_links : (s : Sources) → HasNoneBefore FaultKind.wire_loop s → (x : Spot) → IsSpot s x → (way other : Way) (number other_number line other_line : ℕ) (a b : Option Spot)
     → IsLink s way number line x a → IsLink s other other_number other_line x b → (way ≡ other → number ≢ other_number) → ⊥
-two_links s faultless x there way other number other_number line other_line a b k l differ = later (place_cmp (way, line) (other, other_line)) refl
+two_links s early x there way other number other_number line other_line a b k l differ = later (place_cmp (way, line) (other, other_line)) refl
   where
     named : (name : List ℕ) × HasSpotName s x name
     named = spot_name s x there
 
     first_is_later : place_cmp (way, line) (other, other_line) ≢ Less → ⊥
     first_is_later behind =
-        faultless (at_line FaultKind.multi_driven way k.module_number line named.0)
+        no_early s early (at_line FaultKind.multi_driven way k.module_number line named.0)
         (IsFault.multi_driven way other k.module_number number other_number line other_line k.of_module x a b named.0 l k
-        (λ e f. differ (sym e) (sym f)) behind k.is_module named.1)
+        (λ e f. differ (sym e) (sym f)) behind k.is_module named.1) (omega arith)
 
     later : (o : Ordering) → place_cmp (way, line) (other, other_line) ≡ o → ⊥
     later Less e =
-        faultless (at_line FaultKind.multi_driven other l.module_number other_line named.0)
+        no_early s early (at_line FaultKind.multi_driven other l.module_number other_line named.0)
         (IsFault.multi_driven other way l.module_number other_number number other_line line l.of_module x b a named.0 k l
-        differ (not_both_before place_cmp place_total (way, line) (other, other_line) e) l.is_module named.1)
+        differ (not_both_before place_cmp place_total (way, line) (other, other_line) e) l.is_module named.1) (omega arith)
     later Equal e = first_is_later (λ less. absurd (unequal (sym e ∙ less)))
       where
         unequal : Equal ≡ Less → ⊥
@@ -82,12 +90,12 @@ two_links s faultless x there way other number other_number line other_line a b 
         unequal : Greater ≡ Less → ⊥
         unequal h = cc
 
--- in a design without faults all links to a bit come from one bit, or from a constant
-pub one_source : (s : Sources) → IsFaultless s → (x : Spot) → IsSpot s x → (a b : Option Spot) → IsLinked s x a → IsLinked s x b → a ≡ b
-one_source s faultless x there a b k l = by_way (way_cmp k.0 l.0) refl
+-- where no fault comes before rings all links to a bit come from one bit, or from a constant
+pub one_source : (s : Sources) → HasNoneBefore FaultKind.wire_loop s → (x : Spot) → IsSpot s x → (a b : Option Spot) → IsLinked s x a → IsLinked s x b → a ≡ b
+one_source s early x there a b k l = by_way (way_cmp k.0 l.0) refl
   where
     no_two : (k.0 ≡ l.0 → k.1 ≢ l.1) → a ≡ b
-    no_two differ = absurd (two_links s faultless x there k.0 l.0 k.1 l.1 k.2 l.2 a b k.3 l.3 differ)
+    no_two differ = absurd (two_links s early x there k.0 l.0 k.1 l.1 k.2 l.2 a b k.3 l.3 differ)
 
     by_number : k.0 ≡ l.0 → (o : Ordering) → nat_cmp k.1 l.1 ≡ o → a ≡ b
     by_number ways Less e = no_two (λ _ same. not_before_itself nat_cmp nat_cmp_total l.1 (subst (λ n. nat_cmp n l.1 ≡ Less) same e))
@@ -212,11 +220,11 @@ same_feeder s faultless spots one x there b c ports (IsFeederOf.bit source n pla
 same_feeder s faultless spots one x there b c ports (IsFeederOf.bit source n plain link at f) (IsFeederOf.through q source' m other passes pin at' g) =
     absurd (not_plain_through s x c b q (sym ports) other passes plain)
 same_feeder s faultless spots one x there b c ports (IsFeederOf.bit source n plain link at f) (IsFeederOf.bit source' m plain' link' at' g) =
-    let from : source ≡ source' = linked_to_bit source source' (one_source s faultless x there (Some source) (Some source') link link') in
+    let from : source ≡ source' = linked_to_bit source source' (one_source s (early_of s faultless) x there (Some source) (Some source') link link') in
     let numbers : n ≡ m = one n m source' (subst (λ y. slice_get spots n ≡ Some y) from at) at' in
     cc
 same_feeder s faultless spots one x there b c ports (IsFeederOf.bit source n plain link at f) (IsFeederOf.constant plain' link' g) =
-    absurd (bit_or_constant source (one_source s faultless x there (Some source) None link link'))
+    absurd (bit_or_constant source (one_source s (early_of s faultless) x there (Some source) None link link'))
 same_feeder s faultless spots one x there b c ports (IsFeederOf.bit source n plain link at f) (IsFeederOf.nothing plain' none g) =
     absurd (none (Some source) link)
 same_feeder s faultless spots one x there b c ports (IsFeederOf.constant plain link f) (IsFeederOf.driver q other signal g) =
@@ -224,7 +232,7 @@ same_feeder s faultless spots one x there b c ports (IsFeederOf.constant plain l
 same_feeder s faultless spots one x there b c ports (IsFeederOf.constant plain link f) (IsFeederOf.through q source m other passes pin at g) =
     absurd (not_plain_through s x c b q (sym ports) other passes plain)
 same_feeder s faultless spots one x there b c ports (IsFeederOf.constant plain link f) (IsFeederOf.bit source m plain' link' at g) =
-    absurd (bit_or_constant source (one_source s faultless x there (Some source) None link' link))
+    absurd (bit_or_constant source (one_source s (early_of s faultless) x there (Some source) None link' link))
 same_feeder s faultless spots one x there b c ports (IsFeederOf.constant plain link f) (IsFeederOf.constant plain' link' g) = cc
 same_feeder s faultless spots one x there b c ports (IsFeederOf.constant plain link f) (IsFeederOf.nothing plain' none g) = absurd (none None link)
 same_feeder s faultless spots one x there b c ports (IsFeederOf.nothing plain none f) (IsFeederOf.driver q other signal g) =

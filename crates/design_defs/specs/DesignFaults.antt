@@ -1,5 +1,5 @@
 -- What can be wrong with a design, where each fault stands, and which one comes first.
-use Rattle.std.specs.Prelude.{◌≡◌, ◌≢◌, ℕ, ◌<◌, true, List, [], ◌∷◌, ◌++◌, Option, Some, None, length, slice_get, codes}
+use Rattle.std.specs.Prelude.{◌≡◌, ◌≢◌, ℕ, ◌<◌, true, List, [], ◌∷◌, ◌++◌, Option, Some, None, length, slice_get, codes, ◌≤◌}
 use Rattle.std.specs.Ordering.{nat_cmp, on, then_cmp}
 use Rattle.std.specs.declared.cmp.Ordering.{Ordering}
 use Rattle.std.specs.declared.cmp.Ordering.TheVariants.{Less}
@@ -200,6 +200,10 @@ pub data IsFault (s : Sources) : Fault → Type 0 where
 -- nothing is wrong with the design
 abbrev pub IsFaultless : Sources → Type 0
 IsFaultless s = (f : Fault) → IsFault s f → ⊥
+
+-- no fault of a kind that comes before this one
+abbrev pub HasNoneBefore : FaultKind → Sources → Type 0
+HasNoneBefore kind s = (f : Fault) → IsFault s f → kind_number kind ≤ kind_number f.kind
 
 -- the line and the name that are refused, with the module that has the line
 abbrev pub place_of_fault : Fault → AtModule

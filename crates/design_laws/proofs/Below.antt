@@ -28,6 +28,7 @@ use Rattle.design_laws.proofs.NoTwoNames.{no_two_names}
 use Rattle.design_laws.proofs.Numbered.{IsWayOf, is_instance, one_number, one_way, parent_of_way, path_of_way, way_of_parent}
 use Rattle.design_laws.proofs.SpotLists.{same_way_equal}
 use Rattle.design_laws.specs.FullNames.{HaveFullNames, names_of}
+use Rattle.design_defs.proofs.OneDesign.{early_of}
 
 -- FULL NAMES. An instance below the top has one.
 pub inst_full : (s : Sources) → HaveFullNames s → (name : List ℕ) (outer : Way) → IsInstance s (name ∷ outer) → name ≢ []
@@ -112,7 +113,7 @@ one_of_path s faultless n m v w first second same = by (way_cmp (n ∷ v) (m ∷
 
     differ : (n ∷ v ≢ m ∷ w) → ⊥
     differ other =
-        no_two_names s faultless (Thing.instance (n ∷ v)) (Thing.instance (m ∷ w)) (path (n ∷ v)) (HasThingName.instance n v first)
+        no_two_names s (early_of s faultless) (Thing.instance (n ∷ v)) (Thing.instance (m ∷ w)) (path (n ∷ v)) (HasThingName.instance n v first)
         (subst (HasThingName s (Thing.instance (m ∷ w))) (sym same) (HasThingName.instance m w second)) (λ e. other (thing_way e))
 
     equal : n ∷ v ≡ m ∷ w → way_cmp (n ∷ v) (m ∷ w) ≡ Equal

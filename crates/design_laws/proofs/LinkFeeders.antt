@@ -7,7 +7,7 @@ use Rattle.design_defs.specs.Bits.{IsSpot, Spot}
 use Rattle.design_defs.specs.DesignFaults.{IsFaultless}
 use Rattle.design_defs.specs.Designs.{IsFeederOf, IsLinked, IsPlainBit, begins_signal_at, passes_on_at}
 use Rattle.design_defs.specs.Hierarchy.{Sources}
-use Rattle.design_defs.proofs.OneDesign.{one_source}
+use Rattle.design_defs.proofs.OneDesign.{one_source, early_of}
 use Rattle.design_laws.proofs.Feeders.{true_or_false}
 
 -- a bit that is linked to one feeds it
@@ -18,10 +18,10 @@ fed_by_bit s faultless spots x there b (IsFeederOf.driver p port signal f) plain
 fed_by_bit s faultless spots x there b (IsFeederOf.through p from n port passes pin at f) plain source link =
     absurd (true_or_false (passes_on_at s x.way p) passes (plain.not_passing p port))
 fed_by_bit s faultless spots x there b (IsFeederOf.bit from n plain' own at f) plain source link =
-    let same : from ≡ source = same_Some from source (one_source s faultless x there (Some from) (Some source) own link) in
+    let same : from ≡ source = same_Some from source (one_source s (early_of s faultless) x there (Some from) (Some source) own link) in
     (n, subst (λ y. slice_get spots n ≡ Some y) same at, f)
 fed_by_bit s faultless spots x there b (IsFeederOf.constant plain' own f) plain source link =
-    let none = one_source s faultless x there (Some source) None link own in
+    let none = one_source s (early_of s faultless) x there (Some source) None link own in
     cc
 fed_by_bit s faultless spots x there b (IsFeederOf.nothing plain' none f) plain source link = absurd (none (Some source) link)
 
@@ -32,7 +32,7 @@ fed_by_constant s faultless spots x there b (IsFeederOf.driver p port signal f) 
 fed_by_constant s faultless spots x there b (IsFeederOf.through p from n port passes pin at f) plain link =
     absurd (true_or_false (passes_on_at s x.way p) passes (plain.not_passing p port))
 fed_by_constant s faultless spots x there b (IsFeederOf.bit from n plain' own at f) plain link =
-    let none = one_source s faultless x there (Some from) None own link in
+    let none = one_source s (early_of s faultless) x there (Some from) None own link in
     cc
 fed_by_constant s faultless spots x there b (IsFeederOf.constant plain' own f) plain link = f
 fed_by_constant s faultless spots x there b (IsFeederOf.nothing plain' none f) plain link = absurd (none None link)

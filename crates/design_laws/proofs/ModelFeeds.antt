@@ -1,4 +1,4 @@
--- An output bit of an instance of a model is fed as one line of the model says.
+-- Where no fault comes before rings, an output bit of an instance of a model is fed as one line of the model says.
 use Rattle.std.proofs.Common.{◌≡◌, ℕ, zero, suc, ◌+◌, ◌<◌, ◌≤◌, Bool, true, false, List, [], ◌∷◌, ◌++◌, Option, Some, None, option_and_then, option_map, length, map, filter, slice_get, inl, inr, refl, sym, ap, ◌∙◌, subst, arith}
 use Rattle.std.specs.List.{flat_map, range_with_len}
 use Rattle.std.proofs.lemmas.Option.{same_Some}
@@ -13,7 +13,7 @@ use Rattle.list_defs.proofs.Members.{IsIn-append_cases, IsIn-filter_from, IsIn-f
 use Rattle.list_defs.proofs.NameLemmas.{same_name-equal}
 use Rattle.list_defs.proofs.Rising.{found_in}
 use Rattle.design_defs.specs.Bits.{Spot, port_named, range_in, range_of}
-use Rattle.design_defs.specs.DesignFaults.{HasPortAt, IsFaultless}
+use Rattle.design_defs.specs.DesignFaults.{HasPortAt, FaultKind, HasNoneBefore}
 use Rattle.design_defs.specs.Hierarchy.{Sources, Way, body_at}
 use Rattle.design_defs.specs.Models.{AreOpenWalks, HasWellFormedFields, bit_of_walk, bits_of_port}
 use Rattle.design_defs.specs.Ports.{is_input, is_output}
@@ -80,24 +80,24 @@ bit_among test ports name there =
     record { at = at.0; port = port.0; is_port = at.1; passes = own.1; place = place.0; within = omega (arith, range.1); named = place.2 }
 
 -- the bits of ports of an instance have names apart
-bits_apart : (s : Sources) → IsFaultless s → (way : Way) (test : Port → Bool) (from : ℕ) (ports : List Port)
+bits_apart : (s : Sources) → HasNoneBefore FaultKind.wire_loop s → (way : Way) (test : Port → Bool) (from : ℕ) (ports : List Port)
     → ((at : ℕ) (p : Port) → slice_get ports at ≡ Some p → HasPortAt s way (from + at) p) → AllApart (flat_map bits_of_port (filter test ports))
-bits_apart s faultless way test from [] has = tt
-bits_apart s faultless way test from (p ∷ ports) has =
-    by (test p) refl (bits_apart s faultless way test (from + 1) ports
+bits_apart s early way test from [] has = tt
+bits_apart s early way test from (p ∷ ports) has =
+    by (test p) refl (bits_apart s early way test (from + 1) ports
     (λ at q e. subst (λ n. HasPortAt s way n q) {x = from + suc at} {y = from + 1 + at} (omega arith) (has (suc at) q e)))
   where
     own : AllApart (bits_of_port p)
     own =
         apart_names (bit_name p.name p.range) (width p.range) 0 (width p.range)
-        (λ i j in_range other same. (one_port_bit s faultless way (from + 0) (from + 0) p p i j (has 0 p refl) (has 0 p refl) in_range other same).1) (omega arith)
+        (λ i j in_range other same. (one_port_bit s early way (from + 0) (from + 0) p p i j (has 0 p refl) (has 0 p refl) in_range other same).1) (omega arith)
 
     apart : (name : List ℕ) → IsIn name (bits_of_port p) → IsIn name (flat_map bits_of_port (filter test ports)) → ⊥
     apart name there later =
         let place = IsIn-map_from (bit_name p.name p.range) name (range_with_len 0 (width p.range)) there in
         let range = from_range 0 (width p.range) place.0 place.1 in
         let other = bit_among test ports name later in
-        let same = one_port_bit s faultless way (from + 0) (from + suc other.at) p other.port place.0 other.place (has 0 p refl)
+        let same = one_port_bit s early way (from + 0) (from + suc other.at) p other.port place.0 other.place (has 0 p refl)
         (has (suc other.at) other.port other.is_port) (omega (arith, range.1)) other.within (sym place.2 ∙ other.named) in
         omega (arith, same.0)
 
@@ -149,11 +149,11 @@ in_of_line m well out source elements there =
     (well.walks.each_output (Feed out source elements) (among_outputs m well.walks out source elements there)).0
 
 -- one line feeds an output
-pub one_line : (s : Sources) → IsFaultless s → (way : Way) (n : ℕ) (m : Model) → body_at s way ≡ Some (ModelBody n) → slice_get s.models n ≡ Some m
+pub one_line : (s : Sources) → HasNoneBefore FaultKind.wire_loop s → (way : Way) (n : ℕ) (m : Model) → body_at s way ≡ Some (ModelBody n) → slice_get s.models n ≡ Some m
     → HasWellFormedFields m → (out source other : List ℕ) (elements more : List Element) → IsIn (Feed out source elements) m.partials
     → IsIn (Feed out other more) m.partials → source ≡ other
-one_line s faultless way n m body is well out source other elements more there again =
-    let apart = bits_apart s faultless way (λ (p : Port). is_output (Some p.dir)) 0 m.ports
+one_line s early way n m body is well out source other elements more there again =
+    let apart = bits_apart s early way (λ (p : Port). is_output (Some p.dir)) 0 m.ports
     (λ at p e. model_port s way n m body is (0 + at) p (subst (λ k. slice_get m.ports k ≡ Some p) {x = at} {y = 0 + at} (omega arith) e)) in
     let outputs : AllApart (map bit_of_walk well.walks.outputs) = subst (λ (xs : List (List ℕ)). AllApart xs) (sym well.walks.output_order) apart in
     let same : Feed out source elements ≡ Feed out other more =

@@ -34,6 +34,7 @@ use Rattle.design_laws.proofs.OneFeed.{one_feed}
 use Rattle.design_laws.proofs.PortBits.{port_of_way}
 use Rattle.design_laws.proofs.PortSpots.{port_of_bit}
 use Rattle.design_laws.proofs.RingLemmas.{first_step, no_descent, on_ring}
+use Rattle.design_defs.proofs.OneDesign.{early_of}
 
 -- STEPS. One bit is fed by another, by their numbers.
 Step : (s : Sources) (d : Design) → IsMadeFrom s d → ℕ → ℕ → Type 0
@@ -162,7 +163,7 @@ one_step s d made read faultless n m k p q =
     let there = is_spot s d made n p.0 p.2 in
     let end = is_spot s d made m p.1 p.3 in
     let other = is_spot s d made k q.1 q.3 in
-    elim (one_feed s read faultless p.0 p.1 q.1 there end p.4 (subst (λ x. Feeds s x q.1) start q.4)) [
+    elim (one_feed s read (early_of s faultless) p.0 p.1 q.1 there end p.4 (subst (λ x. Feeds s x q.1) start q.4)) [
       | inl same ↦ one_bit_number s d made m k p.1 p.3 (subst (IsSpotOf made k) same q.3)
       | inr ghost ↦ absurd (ghost.no_bit other)
     ]
@@ -201,7 +202,7 @@ step_on_ring s d made read faultless n x y at ring feeds = by (first_step (Step 
         let step = next.1 in
         let start : step.0 ≡ x = one_spot s d made n step.0 x step.2 at in
         let again = on_ring (Step s d made) (one_step s d made read faultless) n next.0 (IsReached.one n next.0 step) ring in
-        elim (one_feed s read faultless x step.1 y (is_spot s d made n x at) (is_spot s d made next.0 step.1 step.3)
+        elim (one_feed s read (early_of s faultless) x step.1 y (is_spot s d made n x at) (is_spot s d made next.0 step.1 step.3)
         (subst (λ z. Feeds s z step.1) start step.4) feeds) [
           | inl same ↦ inl (next.0, subst (IsSpotOf made next.0) (sym same) step.3, again)
           | inr ghost ↦

@@ -1,4 +1,4 @@
--- In a hierarchy without faults no two things have one joined name.
+-- Where no fault comes before rings no two things have one joined name.
 use Rattle.std.proofs.Common.{◌≡◌, ◌≢◌, ℕ, List, [], ◌∷◌, Option, Some, None, option_map, inl, inr, refl, sym, ap, ◌∙◌, subst, arith}
 use Rattle.std.specs.declared.cmp.Ordering.{Ordering}
 use Rattle.std.specs.declared.cmp.Ordering.TheVariants.{Less, Equal, Greater}
@@ -8,11 +8,12 @@ use Rattle.pw_defs.specs.declared.design.Body.TheVariants.{Module as ModuleBody,
 use Rattle.pw_defs.specs.declared.netlist.Module.{Module}
 use Rattle.pw_defs.specs.declared.netlist.Port.{Port}
 use Rattle.list_defs.proofs.Rising.{not_both_before}
-use Rattle.design_defs.specs.DesignFaults.{FaultKind, HasPortAt, HasThingName, IsFault, IsFaultless, StandsAt, Thing, at_line, way_of}
+use Rattle.design_defs.specs.DesignFaults.{FaultKind, HasPortAt, HasThingName, IsFault, StandsAt, Thing, at_line, way_of, HasNoneBefore}
 use Rattle.design_defs.specs.Hierarchy.{Sources, Way, body_at, module_at, path, ports_in, way_cmp}
 use Rattle.design_defs.specs.Names.{joined}
 use Rattle.design_defs.proofs.BitOrders.{way_total}
 use Rattle.design_laws.proofs.Lines.{cell_inside, inst_line, line_of, model_inside}
+use Rattle.design_defs.proofs.OneDesign.{no_early}
 
 -- what a thing stands at
 record StandsSomewhere (s : Sources) (t : Thing) : Type 0 where
@@ -71,8 +72,8 @@ stands s _ _ (HasThingName.vector_bit way number p range place has is within) =
     port_stands s (Thing.vector_bit way number place) (λ w e. cc) way refl number p has
 
 -- No two things have one joined name.
-pub no_two_names : (s : Sources) → IsFaultless s → (t u : Thing) (name : List ℕ) → HasThingName s t name → HasThingName s u name → t ≢ u → ⊥
-no_two_names s faultless t u name p q differ = by (way_cmp (way_of u) (way_of t)) refl
+pub no_two_names : (s : Sources) → HasNoneBefore FaultKind.wire_loop s → (t u : Thing) (name : List ℕ) → HasThingName s t name → HasThingName s u name → t ≢ u → ⊥
+no_two_names s early t u name p q differ = by (way_cmp (way_of u) (way_of t)) refl
   where
     at_t : StandsSomewhere s t
     at_t = stands s t name p
@@ -82,14 +83,14 @@ no_two_names s faultless t u name p q differ = by (way_cmp (way_of u) (way_of t)
 
     not_less : way_cmp (way_of u) (way_of t) ≢ Less → ⊥
     not_less behind =
-        faultless (at_line FaultKind.path_twice at_u.way at_u.number at_u.line name)
-        (IsFault.path_twice t u name at_u.way at_u.number at_u.line p q differ behind at_u.there)
+        no_early s early (at_line FaultKind.path_twice at_u.way at_u.number at_u.line name)
+        (IsFault.path_twice t u name at_u.way at_u.number at_u.line p q differ behind at_u.there) (omega arith)
 
     by : (o : Ordering) → way_cmp (way_of u) (way_of t) ≡ o → ⊥
     by Less e =
-        faultless (at_line FaultKind.path_twice at_t.way at_t.number at_t.line name)
+        no_early s early (at_line FaultKind.path_twice at_t.way at_t.number at_t.line name)
         (IsFault.path_twice u t name at_t.way at_t.number at_t.line q p (λ same. differ (sym same))
-        (not_both_before way_cmp way_total (way_of u) (way_of t) e) at_t.there)
+        (not_both_before way_cmp way_total (way_of u) (way_of t) e) at_t.there) (omega arith)
     by Equal e = not_less (λ less. unequal (sym e ∙ less))
       where
         unequal : Equal ≡ Less → ⊥
@@ -100,8 +101,8 @@ no_two_names s faultless t u name p q differ = by (way_cmp (way_of u) (way_of t)
         unequal h = cc
 
 -- two ports of an instance have two names
-pub one_port : (s : Sources) → IsFaultless s → (way : Way) (k l : ℕ) (p q : Port) → HasPortAt s way k p → HasPortAt s way l q → p.name ≡ q.name → k ≡ l
-one_port s faultless way k l p q has other same =
+pub one_port : (s : Sources) → HasNoneBefore FaultKind.wire_loop s → (way : Way) (k l : ℕ) (p q : Port) → HasPortAt s way k p → HasPortAt s way l q → p.name ≡ q.name → k ≡ l
+one_port s early way k l p q has other same =
     elim (cases_order k l) [
       | inl e ↦ e
       | inr o ↦ elim o [ inl less ↦ absurd (two (λ e. omega arith)) | inr more ↦ absurd (two (λ e. omega arith)) ]
@@ -112,6 +113,6 @@ one_port s faultless way k l p q has other same =
 
     two : (k ≡ l → ⊥) → ⊥
     two differ =
-        no_two_names s faultless (Thing.port way k) (Thing.port way l) (joined (path way) p.name) (HasThingName.port way k p has)
+        no_two_names s early (Thing.port way k) (Thing.port way l) (joined (path way) p.name) (HasThingName.port way k p has)
         (subst (λ name. HasThingName s (Thing.port way l) (joined (path way) name)) (sym same) (HasThingName.port way l q other))
         (λ e. differ (same_number e))

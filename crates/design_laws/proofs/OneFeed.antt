@@ -1,4 +1,4 @@
--- In a hierarchy without faults a bit is fed by one bit. (A line of a model that names an input bit is also met by places
+-- Where no fault comes before rings, a bit is fed by one bit. (A line of a model that names an input bit is also met by places
 -- outside the range of the port that are spelled alike; but there is no bit there, and nothing feeds it.)
 use Rattle.std.proofs.Common.{◌≡◌, ℕ, ◌<◌, ◌≤◌, ◌⊎◌, true, List, [], ◌∷◌, Option, Some, option_and_then, option_map, length, map, slice_get, inl, inr, refl, sym, ap, ◌∙◌, subst, arith}
 use Rattle.std.proofs.lemmas.Bool.{cases_lt}
@@ -21,7 +21,7 @@ use Rattle.list_defs.proofs.Members.{IsIn-slice_get}
 use Rattle.list_defs.proofs.NameLemmas.{same_name-equal}
 use Rattle.list_defs.proofs.Rising.{found_in}
 use Rattle.design_defs.specs.Bits.{HasSpotName, IsSpot, Spot}
-use Rattle.design_defs.specs.DesignFaults.{FaultKind, HasPortAt, IsFault, IsFaultless, at_line}
+use Rattle.design_defs.specs.DesignFaults.{FaultKind, HasPortAt, IsFault, at_line, HasNoneBefore}
 use Rattle.design_defs.specs.Designs.{IsLinked}
 use Rattle.design_defs.specs.Hierarchy.{IsOfModule, Sources, Way, body_at, path}
 use Rattle.design_defs.specs.Inputs.{AllDiffer, AreReadSources, declared_names}
@@ -31,13 +31,13 @@ use Rattle.design_defs.specs.Names.{joined}
 use Rattle.design_defs.specs.Places.{misselected, signals}
 use Rattle.design_defs.specs.Ports.{is_input, is_output, port_of_pin}
 use Rattle.design_defs.specs.Ranges.{bit_name, width}
-use Rattle.design_defs.proofs.OneDesign.{one_source}
 use Rattle.design_defs.proofs.BitOrders.{spot_of_parts}
 use Rattle.design_laws.proofs.LinkCases.{IsInputSpot, IsLinkBy, link_by, no_child, port_there}
-use Rattle.design_laws.proofs.ModelFeeds.{in_of_line, model_port, one_line, out_of_line, port_of_net}
-use Rattle.design_laws.proofs.NoTwoNames.{one_port}
-use Rattle.design_laws.proofs.PortBitNames.{one_port_bit, same_unless}
+use Rattle.design_laws.proofs.ModelFeeds.{in_of_line, model_port, out_of_line, port_of_net, one_line}
+use Rattle.design_laws.proofs.PortBitNames.{same_unless, one_port_bit}
 use Rattle.design_laws.proofs.PortBits.{port_of_way}
+use Rattle.design_defs.proofs.OneDesign.{no_early, one_source}
+use Rattle.design_laws.proofs.NoTwoNames.{one_port}
 
 -- INPUTS AND OUTPUTS. A bit of an output port of an instance.
 record IsOutputSpot (s : Sources) (x : Spot) : Type 0 where
@@ -47,59 +47,59 @@ record IsOutputSpot (s : Sources) (x : Spot) : Type 0 where
   name : x.net ≡ port.name
   output : port.dir ≡ Output
 
-not_both_ways : (s : Sources) → IsFaultless s → (x : Spot) → IsInputSpot s x → IsOutputSpot s x → ⊥
-not_both_ways s faultless x i o =
-    let numbers : i.number ≡ o.number = one_port s faultless x.way i.number o.number i.port o.port i.has o.has (sym i.name ∙ o.name) in
+not_both_ways : (s : Sources) → HasNoneBefore FaultKind.wire_loop s → (x : Spot) → IsInputSpot s x → IsOutputSpot s x → ⊥
+not_both_ways s early x i o =
+    let numbers : i.number ≡ o.number = one_port s early x.way i.number o.number i.port o.port i.has o.has (sym i.name ∙ o.name) in
     let moved : HasPortAt s x.way o.number i.port = subst (λ n. HasPortAt s x.way n i.port) numbers i.has in
     let ports : i.port ≡ o.port = port_of_way s x.way x.way o.number i.port o.port refl moved o.has in
     let dirs : Input ≡ Output = sym i.input ∙ ap (λ (p : Port). p.dir) ports ∙ o.output in
     cc
 
 -- WIDTHS. What is connected to a port is as wide as the port.
-as_wide : (s : Sources) → IsFaultless s → (way : Way) (n : ℕ) (m : Module) (i : Inst) (c : Conn) (e : Expr) (p : Port) → IsOfModule s way n m → IsIn i m.insts
+as_wide : (s : Sources) → HasNoneBefore FaultKind.wire_loop s → (way : Way) (n : ℕ) (m : Module) (i : Inst) (c : Conn) (e : Expr) (p : Port) → IsOfModule s way n m → IsIn i m.insts
     → IsIn c i.conns → c.expr ≡ Some e → port_of_conn s i c ≡ Some p → length (signals m e) ≡ width p.range
-as_wide s faultless way n m i c e p is in_m in_i expr port = by (misselected m e) refl
+as_wide s early way n m i c e p is in_m in_i expr port = by (misselected m e) refl
   where
     by : (names : List (List ℕ)) → misselected m e ≡ names → length (signals m e) ≡ width p.range
     by [] none =
         same_unless (length (signals m e)) (width p.range) (λ differ.
-        faultless (at_line FaultKind.wrong_width way n i.line c.port) (IsFault.width_of_conn way n m i c e p is in_m in_i expr port none differ))
+        no_early s early (at_line FaultKind.wrong_width way n i.line c.port) (IsFault.width_of_conn way n m i c e p is in_m in_i expr port none differ) (omega arith))
     by (name ∷ names) some =
-        absurd (faultless (at_line FaultKind.wrong_width way n i.line name)
-        (IsFault.selected_in_conn way n m i c e name is in_m in_i expr (subst (IsIn name) (sym some) (inl refl))))
+        absurd (no_early s early (at_line FaultKind.wrong_width way n i.line name)
+        (IsFault.selected_in_conn way n m i c e name is in_m in_i expr (subst (IsIn name) (sym some) (inl refl))) (omega arith))
 
 -- an input bit that a link feeds, within the width of its port
-record IsFedInput (s : Sources) (x : Spot) : Type 0 where
+pub record IsFedInput (s : Sources) (x : Spot) : Type 0 where
   spot : IsInputSpot s x
   within : x.place < width spot.port.range
 
-fed_child : (s : Sources) → IsFaultless s → (way : Way) (n : ℕ) (m : Module) (l : Link) → IsOfModule s way n m → AllDiffer (declared_names m) → IsLinkBy s m l
+fed_child : (s : Sources) → HasNoneBefore FaultKind.wire_loop s → (way : Way) (n : ℕ) (m : Module) (l : Link) → IsOfModule s way n m → AllDiffer (declared_names m) → IsLinkBy s m l
     → (inst port : List ℕ) (place : ℕ) → l.fed ≡ End.child inst port place → IsFedInput s (record { way = inst ∷ way; net = port; place = place })
-fed_child s faultless way n m l is differ (IsLinkBy.to_input i c e p at from in_m in_i expr port_is dir found same) inst port place fed =
+fed_child s early way n m l is differ (IsLinkBy.to_input i c e p at from in_m in_i expr port_is dir found same) inst port place fed =
     let ends : End.child i.name p.name at ≡ End.child inst port place = sym (ap (λ (x : Link). x.fed) same) ∙ fed in
     let insts : i.name ≡ inst = cc in
     let ports : p.name ≡ port = cc in
     let places : at ≡ place = cc in
     let there = port_there s way n m i c p is differ in_m port_is in
-    let wide = as_wide s faultless way n m i c e p is in_m in_i expr port_is in
+    let wide = as_wide s early way n m i c e p is in_m in_i expr port_is in
     let in_signals : at < length (signals m e) = slice_get_within (signals m e) at from found in
     record {
       spot = record { number = there.0; port = p; has = subst (λ name. HasPortAt s (name ∷ way) there.0 p) insts there.1; name = sym ports; input = dir };
       within = subst (λ k. k < width p.range) places (subst (λ k. at < k) wide in_signals);
     }
-fed_child s faultless way n m l is differ (IsLinkBy.to_output i c e p at net to in_m in_i expr port_is dir found same) inst port place fed =
+fed_child s early way n m l is differ (IsLinkBy.to_output i c e p at net to in_m in_i expr port_is dir found same) inst port place fed =
     let ends : End.inner net to ≡ End.child inst port place = sym (ap (λ (x : Link). x.fed) same) ∙ fed in
     cc
-fed_child s faultless way n m l is differ (IsLinkBy.to_left a left right in_m found same) inst port place fed =
+fed_child s early way n m l is differ (IsLinkBy.to_left a left right in_m found same) inst port place fed =
     absurd (no_child left inst port place (sym (ap (λ (x : Link). x.fed) same) ∙ fed))
 
 -- a link feeds a net of a module, or an input
-of_module : Sources → Spot → Type 0
+pub of_module : Sources → Spot → Type 0
 of_module s x = (n : ℕ) × (body_at s x.way ≡ Some (ModuleBody n))
 
-linked_at : (s : Sources) → AreReadSources s → IsFaultless s → (x : Spot) (source : Option Spot) → IsLinked s x source → of_module s x ⊎ IsFedInput s x
+pub linked_at : (s : Sources) → AreReadSources s → HasNoneBefore FaultKind.wire_loop s → (x : Spot) (source : Option Spot) → IsLinked s x source → of_module s x ⊎ IsFedInput s x
 unfolding of_module
-linked_at s read faultless x source linked = by l.link.fed refl
+linked_at s read early x source linked = by l.link.fed refl
   where
     way : Way
     way = linked.0
@@ -114,7 +114,7 @@ linked_at s read faultless x source linked = by l.link.fed refl
     by (End.child inst port place) is =
         let same : record { way = inst ∷ way; net = port; place = place } ≡ x =
         same_Some (record { way = inst ∷ way; net = port; place = place }) x (sym (ap (spot_of way) is) ∙ l.fed_there) in
-        inr (subst (IsFedInput s) same (fed_child s faultless way l.module_number l.of_module l.link l.is_module
+        inr (subst (IsFedInput s) same (fed_child s early way l.module_number l.of_module l.link l.is_module
         (read.each_module l.of_module (IsIn-slice_get s.modules l.module_number l.of_module l.is_module.is_module)).own_names
         (link_by s l.of_module l.link (IsIn-slice_get (links_in s l.of_module) linked.1 l.link l.there)) inst port place is))
     by End.constant is = let none = sym (ap (spot_of way) is) ∙ l.fed_there in cc
@@ -138,7 +138,7 @@ through_output s x y is =
       output = is.is_out;
     }
 
-model_of : (s : Sources) → AreReadSources s → (x y : Spot) (is : IsModelFeed s x y) → HasWellFormedFields is.model
+pub model_of : (s : Sources) → AreReadSources s → (x y : Spot) (is : IsModelFeed s x y) → HasWellFormedFields is.model
 model_of s read x y is = read.each_model is.model (IsIn-slice_get s.models is.number is.model is.is_model)
 
 dir_out : (d : Dir) → is_output (Some d) ≡ true → d ≡ Output
@@ -150,8 +150,8 @@ dir_in_out Input e f = cc
 dir_in_out Output e f = cc
 
 -- so is what a model says to be fed
-model_output : (s : Sources) → AreReadSources s → IsFaultless s → (x y : Spot) → IsSpot s x → IsModelFeed s x y → IsOutputSpot s x
-model_output s read faultless x y there is =
+model_output : (s : Sources) → AreReadSources s → HasNoneBefore FaultKind.wire_loop s → (x y : Spot) → IsSpot s x → IsModelFeed s x y → IsOutputSpot s x
+model_output s read early x y there is =
     let own = port_of_net s x is.out_range is.number is.model is.body is.is_model is.is_out_range in
     let line = out_of_line is.model (model_of s read x y is) (bit_name x.net is.out_range x.place) (bit_name y.net is.in_range y.place) is.elements is.says in
     let has = model_port s x.way is.number is.model is.body is.is_model line.at line.port line.is_port in
@@ -159,7 +159,7 @@ model_output s read faultless x y there is =
     let within : x.place < width own.1.range = subst (λ r. x.place < width r) ranges there.2 in
     let names : bit_name own.1.name own.1.range x.place ≡ bit_name line.port.name line.port.range line.place =
     ap (λ name. bit_name name own.1.range x.place) (sym own.3) ∙ ap (λ r. bit_name x.net r x.place) (sym own.4) ∙ line.named in
-    let same = one_port_bit s faultless x.way own.0 line.at own.1 line.port x.place line.place own.2 has within line.within names in
+    let same = one_port_bit s early x.way own.0 line.at own.1 line.port x.place line.place own.2 has within line.within names in
     let ports : own.1 ≡ line.port = port_of_way s x.way x.way line.at own.1 line.port refl (subst (λ k. HasPortAt s x.way k own.1) same.0 own.2) has in
     record {
       number = own.0;
@@ -170,12 +170,12 @@ model_output s read faultless x y there is =
     }
 
 -- WHAT FEEDS a bit, without the line that says so.
-data IsFedFrom (s : Sources) (x y : Spot) : Type 0 where
+pub data IsFedFrom (s : Sources) (x y : Spot) : Type 0 where
   by_link : IsLinked s x (Some y) → IsFedFrom s x y
   by_through : IsThrough s x y → IsFedFrom s x y
   by_model : IsModelFeed s x y → IsFedFrom s x y
 
-fed_from : (s : Sources) (x y : Spot) → Feeds s x y → IsFedFrom s x y
+pub fed_from : (s : Sources) (x y : Spot) → Feeds s x y → IsFedFrom s x y
 fed_from s x y feeds = by feeds.2
   where
     by : IsFed s x y feeds.0 feeds.1 → IsFedFrom s x y
@@ -197,18 +197,18 @@ not_model_and_module : (s : Sources) (x : Spot) (c : ℕ) → body_at s x.way �
 unfolding of_module
 not_model_and_module s x c is m = let both : Some (ModelBody c) ≡ Some (ModuleBody m.0) = sym is ∙ m.1 in cc
 
-link_or_through : (s : Sources) → AreReadSources s → IsFaultless s → (x y : Spot) (o : Option Spot) → IsLinked s x o → IsThrough s x y → ⊥
-link_or_through s read faultless x y o link is =
-    elim (linked_at s read faultless x o link) [
+link_or_through : (s : Sources) → AreReadSources s → HasNoneBefore FaultKind.wire_loop s → (x y : Spot) (o : Option Spot) → IsLinked s x o → IsThrough s x y → ⊥
+link_or_through s read early x y o link is =
+    elim (linked_at s read early x o link) [
       | inl m ↦ not_cell_and_module s x is.number is.body m
-      | inr input ↦ not_both_ways s faultless x input.spot (through_output s x y is)
+      | inr input ↦ not_both_ways s early x input.spot (through_output s x y is)
     ]
 
-link_or_model : (s : Sources) → AreReadSources s → IsFaultless s → (x y : Spot) → IsSpot s x → (o : Option Spot) → IsLinked s x o → IsModelFeed s x y → ⊥
-link_or_model s read faultless x y there o link is =
-    elim (linked_at s read faultless x o link) [
+link_or_model : (s : Sources) → AreReadSources s → HasNoneBefore FaultKind.wire_loop s → (x y : Spot) → IsSpot s x → (o : Option Spot) → IsLinked s x o → IsModelFeed s x y → ⊥
+link_or_model s read early x y there o link is =
+    elim (linked_at s read early x o link) [
       | inl m ↦ not_model_and_module s x is.number is.body m
-      | inr input ↦ not_both_ways s faultless x input.spot (model_output s read faultless x y there is)
+      | inr input ↦ not_both_ways s early x input.spot (model_output s read early x y there is)
     ]
 
 through_or_model : (s : Sources) (x y z : Spot) → IsThrough s x y → IsModelFeed s x z → ⊥
@@ -225,8 +225,8 @@ one_through s x y z p q =
     p.is_source ∙ ap spot pins ∙ sym q.is_source
 
 -- the input of a model that a line names: the bit itself, or a place that is spelled alike
-one_model : (s : Sources) → AreReadSources s → IsFaultless s → (x z y : Spot) → IsSpot s z → IsModelFeed s x z → IsModelFeed s x y → (y ≡ z) ⊎ IsGhost s y z
-one_model s read faultless x z y there p q = by (cases_lt y.place (width q.in_range))
+pub one_model : (s : Sources) → AreReadSources s → HasNoneBefore FaultKind.wire_loop s → (x z y : Spot) → IsSpot s z → IsModelFeed s x z → IsModelFeed s x y → (y ≡ z) ⊎ IsGhost s y z
+one_model s read early x z y there p q = by (cases_lt y.place (width q.in_range))
   where
     bodies : Some (ModelBody p.number) ≡ Some (ModelBody q.number)
     bodies = sym p.body ∙ q.body
@@ -256,7 +256,7 @@ one_model s read faultless x z y there p q = by (cases_lt y.place (width q.in_ra
 
     sources : bit_name z.net p.in_range z.place ≡ bit_name y.net q.in_range y.place
     sources =
-        one_line s faultless x.way p.number p.model p.body p.is_model well out (bit_name z.net p.in_range z.place) (bit_name y.net q.in_range y.place)
+        one_line s early x.way p.number p.model p.body p.is_model well out (bit_name z.net p.in_range z.place) (bit_name y.net q.in_range y.place)
         p.elements q.elements p.says says
 
     ways : y.way ≡ z.way
@@ -286,7 +286,7 @@ one_model s read faultless x z y there p q = by (cases_lt y.place (width q.in_ra
         let y_name : bit_name y_port.1.name y_port.1.range y.place ≡ bit_name y.net q.in_range y.place =
         ap (λ name. bit_name name y_port.1.range y.place) (sym y_port.3) ∙ ap (λ r. bit_name y.net r y.place) (sym y_port.4) in
         let has : HasPortAt s z.way y_port.0 y_port.1 = subst (λ w. HasPortAt s w y_port.0 y_port.1) ways y_port.2 in
-        let same = one_port_bit s faultless z.way y_port.0 z_port.0 y_port.1 z_port.1 y.place z.place has z_port.2 y_within z_within
+        let same = one_port_bit s early z.way y_port.0 z_port.0 y_port.1 z_port.1 y.place z.place has z_port.2 y_within z_within
         (y_name ∙ sym sources ∙ sym z_name) in
         let ports : y_port.1 ≡ z_port.1 =
         port_of_way s z.way z.way z_port.0 y_port.1 z_port.1 refl (subst (λ k. HasPortAt s z.way k y_port.1) same.0 has) z_port.2 in
@@ -310,11 +310,11 @@ one_model s read faultless x z y there p q = by (cases_lt y.place (width q.in_ra
 
         linked : (w : Spot) → IsLinked s y (Some w) → ⊥
         linked w link =
-            elim (linked_at s read faultless y (Some w) link) [
+            elim (linked_at s read early y (Some w) link) [
               | inl m ↦ not_model_and_module s y p.number model_at_y m
               | inr input ↦
                   (let one : input.spot.number ≡ y_port.0 =
-                  one_port s faultless y.way input.spot.number y_port.0 input.spot.port y_port.1 input.spot.has y_port.2 (sym input.spot.name ∙ y_port.3) in
+                  one_port s early y.way input.spot.number y_port.0 input.spot.port y_port.1 input.spot.has y_port.2 (sym input.spot.name ∙ y_port.3) in
                   let port : input.spot.port ≡ y_port.1 =
                   port_of_way s y.way y.way y_port.0 input.spot.port y_port.1 refl (subst (λ k. HasPortAt s y.way k input.spot.port) one input.spot.has) y_port.2 in
                   let within : y.place < width q.in_range =
@@ -334,7 +334,7 @@ one_model s read faultless x z y there p q = by (cases_lt y.place (width q.in_ra
             let input = in_of_line p.model well out (bit_name y.net q.in_range y.place) q.elements says in
             let names : bit_name output.port.name output.port.range output.place ≡ bit_name input.port.name input.port.range input.place =
             sym output.named ∙ ap (λ r. bit_name y.net r y.place) range ∙ input.named in
-            let one = one_port_bit s faultless y.way output.at input.at output.port input.port output.place input.place
+            let one = one_port_bit s early y.way output.at input.at output.port input.port output.place input.place
             (model_port s y.way p.number p.model model_at_y p.is_model output.at output.port output.is_port)
             (model_port s y.way p.number p.model model_at_y p.is_model input.at input.port input.is_port) output.within input.within names in
             let ports : output.port ≡ input.port =
@@ -359,17 +359,17 @@ one_model s read faultless x z y there p q = by (cases_lt y.place (width q.in_ra
     by (inl within) = inl (same_bit within)
     by (inr past) = inr (ghost past)
 
-one_from : (s : Sources) → AreReadSources s → IsFaultless s → (x z y : Spot) → IsSpot s x → IsSpot s z → IsFedFrom s x z → IsFedFrom s x y → (y ≡ z) ⊎ IsGhost s y z
-one_from s read faultless x z y at there (IsFedFrom.by_link p) (IsFedFrom.by_link q) = inl (same_Some y z (one_source s faultless x at (Some y) (Some z) q p))
-one_from s read faultless x z y at there (IsFedFrom.by_link p) (IsFedFrom.by_through q) = absurd (link_or_through s read faultless x y (Some z) p q)
-one_from s read faultless x z y at there (IsFedFrom.by_link p) (IsFedFrom.by_model q) = absurd (link_or_model s read faultless x y at (Some z) p q)
-one_from s read faultless x z y at there (IsFedFrom.by_through p) (IsFedFrom.by_link q) = absurd (link_or_through s read faultless x z (Some y) q p)
-one_from s read faultless x z y at there (IsFedFrom.by_through p) (IsFedFrom.by_through q) = inl (one_through s x y z q p)
-one_from s read faultless x z y at there (IsFedFrom.by_through p) (IsFedFrom.by_model q) = absurd (through_or_model s x z y p q)
-one_from s read faultless x z y at there (IsFedFrom.by_model p) (IsFedFrom.by_link q) = absurd (link_or_model s read faultless x z at (Some y) q p)
-one_from s read faultless x z y at there (IsFedFrom.by_model p) (IsFedFrom.by_through q) = absurd (through_or_model s x y z q p)
-one_from s read faultless x z y at there (IsFedFrom.by_model p) (IsFedFrom.by_model q) = one_model s read faultless x z y there p q
+one_from : (s : Sources) → AreReadSources s → HasNoneBefore FaultKind.wire_loop s → (x z y : Spot) → IsSpot s x → IsSpot s z → IsFedFrom s x z → IsFedFrom s x y → (y ≡ z) ⊎ IsGhost s y z
+one_from s read early x z y at there (IsFedFrom.by_link p) (IsFedFrom.by_link q) = inl (same_Some y z (one_source s early x at (Some y) (Some z) q p))
+one_from s read early x z y at there (IsFedFrom.by_link p) (IsFedFrom.by_through q) = absurd (link_or_through s read early x y (Some z) p q)
+one_from s read early x z y at there (IsFedFrom.by_link p) (IsFedFrom.by_model q) = absurd (link_or_model s read early x y at (Some z) p q)
+one_from s read early x z y at there (IsFedFrom.by_through p) (IsFedFrom.by_link q) = absurd (link_or_through s read early x z (Some y) q p)
+one_from s read early x z y at there (IsFedFrom.by_through p) (IsFedFrom.by_through q) = inl (one_through s x y z q p)
+one_from s read early x z y at there (IsFedFrom.by_through p) (IsFedFrom.by_model q) = absurd (through_or_model s x z y p q)
+one_from s read early x z y at there (IsFedFrom.by_model p) (IsFedFrom.by_link q) = absurd (link_or_model s read early x z at (Some y) q p)
+one_from s read early x z y at there (IsFedFrom.by_model p) (IsFedFrom.by_through q) = absurd (through_or_model s x y z q p)
+one_from s read early x z y at there (IsFedFrom.by_model p) (IsFedFrom.by_model q) = one_model s read early x z y there p q
 
 -- What feeds a bit is one bit, or a place that is spelled as this.
-pub one_feed : (s : Sources) → AreReadSources s → IsFaultless s → (x z y : Spot) → IsSpot s x → IsSpot s z → Feeds s x z → Feeds s x y → (y ≡ z) ⊎ IsGhost s y z
-one_feed s read faultless x z y at there p q = one_from s read faultless x z y at there (fed_from s x z p) (fed_from s x y q)
+pub one_feed : (s : Sources) → AreReadSources s → HasNoneBefore FaultKind.wire_loop s → (x z y : Spot) → IsSpot s x → IsSpot s z → Feeds s x z → Feeds s x y → (y ≡ z) ⊎ IsGhost s y z
+one_feed s read early x z y at there p q = one_from s read early x z y at there (fed_from s x z p) (fed_from s x y q)

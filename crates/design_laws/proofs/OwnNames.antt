@@ -14,6 +14,7 @@ use Rattle.design_defs.specs.Ranges.{bit_name}
 use Rattle.design_laws.proofs.NoTwoNames.{no_two_names}
 use Rattle.design_laws.proofs.Numbered.{IsWayOf, is_instance, one_number, port_of_number, way_of_path}
 use Rattle.design_laws.proofs.Top.{top_is_first}
+use Rattle.design_defs.proofs.OneDesign.{early_of}
 
 -- DECISIONS. Two things of a design are the same or not.
 same_or_not : (n m : ℕ) → (n ≡ m) ⊎ (n ≢ m)
@@ -130,6 +131,6 @@ have_own_names s d faultless made x y name p q =
     let second = thing_of s d made faultless y name q in
     elim (same_or_other x y) [
       | inl e ↦ e
-      | inr other ↦ absurd (no_two_names s faultless first.0 second.0 name first.2 second.2
+      | inr other ↦ absurd (no_two_names s (early_of s faultless) first.0 second.0 name first.2 second.2
           (λ e. other (same_in_design s d made x y first.0 second.0 first.1 second.1 e)))
     ]

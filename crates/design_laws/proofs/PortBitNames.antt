@@ -1,8 +1,8 @@
--- In a hierarchy without faults no two port bits of an instance have one name.
+-- Where no fault comes before rings no two port bits of an instance have one name.
 use Rattle.std.proofs.Common.{◌≡◌, ◌≢◌, ℕ, ◌<◌, Option, Some, None, inl, inr, refl, sym, subst, arith}
 use Rattle.std.proofs.lemmas.Bool.{cases_order}
 use Rattle.pw_defs.specs.declared.netlist.Port.{Port}
-use Rattle.design_defs.specs.DesignFaults.{HasPortAt, HasThingName, IsFaultless, Thing}
+use Rattle.design_defs.specs.DesignFaults.{HasPortAt, HasThingName, Thing, FaultKind, HasNoneBefore}
 use Rattle.design_defs.specs.Hierarchy.{Sources, Way, path}
 use Rattle.design_defs.specs.Names.{joined}
 use Rattle.design_defs.specs.Ranges.{bit_name, width}
@@ -47,14 +47,14 @@ same_thing way k l place other (Some r) None within within' e = cc
 same_thing way k l place other (Some r) (Some q) within within' e = let ports : k ≡ l = cc in let places : place ≡ other = cc in (ports, places)
 
 -- Port bits of one instance with one name are the same.
-pub one_port_bit : (s : Sources) → IsFaultless s → (way : Way) (k l : ℕ) (p q : Port) (place other : ℕ) → HasPortAt s way k p → HasPortAt s way l q
+pub one_port_bit : (s : Sources) → HasNoneBefore FaultKind.wire_loop s → (way : Way) (k l : ℕ) (p q : Port) (place other : ℕ) → HasPortAt s way k p → HasPortAt s way l q
     → place < width p.range → other < width q.range → bit_name p.name p.range place ≡ bit_name q.name q.range other → (k ≡ l) × (place ≡ other)
-one_port_bit s faultless way k l p q place other has has' within within' same =
+one_port_bit s early way k l p q place other has has' within within' same =
     (same_unless k l (λ differ. two (λ both. differ both.0)), same_unless place other (λ differ. two (λ both. differ both.1)))
   where
     two : ((k ≡ l) × (place ≡ other) → ⊥) → ⊥
     two differ =
-        no_two_names s faultless (thing_of_bit way k place p.range) (thing_of_bit way l other q.range) (joined (path way) (bit_name p.name p.range place))
+        no_two_names s early (thing_of_bit way k place p.range) (thing_of_bit way l other q.range) (joined (path way) (bit_name p.name p.range place))
         (bit_thing s way k p place has within)
         (subst (λ name. HasThingName s (thing_of_bit way l other q.range) (joined (path way) name)) (sym same) (bit_thing s way l q other has' within'))
         (λ e. differ (same_thing way k l place other p.range q.range within within' e))

@@ -20,6 +20,7 @@ use Rattle.design_laws.proofs.FirstFound.{at_place, own_place}
 use Rattle.design_laws.proofs.NoTwoNames.{one_port}
 use Rattle.design_laws.proofs.Numbered.{IsWayOf, number_of_port}
 use Rattle.design_defs.proofs.BodiesThere.{found_range}
+use Rattle.design_defs.proofs.OneDesign.{early_of}
 
 -- where a bit of a port stands
 abbrev pub port_spot : Way → Port → ℕ → Spot
@@ -37,7 +38,7 @@ range_of_port s faultless way k p place has = (
     own : (place_of (λ (q : Port). same_name p.name q.name) has.1 ≡ Some k) × (find (λ (q : Port). same_name p.name q.name) has.1 ≡ Some p)
     own =
         own_place (λ (q : Port). same_name p.name q.name) has.1 k p has.4 (same_name-itself p.name)
-        (λ l q at same. one_port s faultless way l k q p (has.0, has.1, has.2, has.3, at) has (sym (same_name-equal p.name q.name same)))
+        (λ l q at same. one_port s (early_of s faultless) way l k q p (has.0, has.1, has.2, has.3, at) has (sym (same_name-equal p.name q.name same)))
 
 -- the port that a bit is of
 pub record IsOfPort (s : Sources) (x : Spot) (k : ℕ) (p : Port) : Type 0 where

@@ -1,8 +1,7 @@
 -- The kinds of faults in their order.
-use Rattle.std.proofs.Common.{◌≡◌, ◌≢◌, ℕ, ◌+◌, ◌<◌, ◌≤◌, arith}
-use Rattle.design_defs.specs.DesignFaults.{Fault, FaultKind, IsFault, IsFaultless, kind_number}
+use Rattle.std.proofs.Common.{◌≡◌, ◌+◌, ◌≤◌, arith}
+use Rattle.design_defs.specs.DesignFaults.{FaultKind, IsFaultless, kind_number, HasNoneBefore}
 use Rattle.design_defs.specs.Hierarchy.{Sources}
-use Rattle.net_hierarchy.specs.Firstness.{HasNoneBefore}
 use Rattle.net_hierarchy.specs.Ordered.{HasNoneOf}
 
 -- where there is no fault of a kind or of one before it, none comes before the next

@@ -1,6 +1,6 @@
 //! The design below a top, or its first fault.
 ghost use Rattle.std.specs.Prelude.{◌≡◌, IfErr, IfOk, OnOk};
-ghost use Rattle.design_defs.specs.DesignFaults.{FaultKind, IsDesignOf, sources};
+ghost use Rattle.design_defs.specs.DesignFaults.{FaultKind, IsDesignOf, sources, HasNoneBefore};
 ghost use Rattle.design_defs.specs.Designs.{IsMadeFrom};
 ghost use Rattle.design_defs.specs.Hierarchy.{Sources, AreNamedInsts};
 ghost use Rattle.design_defs.specs.Inputs.{AreReadSources};
@@ -10,7 +10,7 @@ ghost use Rattle.design_rows.specs.Children.{HasNames};
 ghost use Rattle.design_rows.specs.Sound.{AreRows};
 ghost use Rattle.design_rows.specs.View.{design_of};
 ghost use Rattle.net_design.specs.Stages.{AreParts, HaveTargets};
-ghost use Rattle.net_hierarchy.specs.Firstness.{HasNoneBefore, IsCause};
+ghost use Rattle.net_hierarchy.specs.Firstness.{IsCause};
 ghost use Rattle.net_instances.specs.Instances.{AreInstances};
 ghost use Rattle.net_outline.specs.Outline.{IsOutline};
 ghost use Rattle.net_places.specs.Plans.{IsOf};

@@ -1,10 +1,10 @@
 //! The faults that lines of modules have wherever the modules stand: wrong ports and wrong widths.
 ghost use Rattle.std.specs.Prelude.{◌≡◌, IfErr, IfOk};
-ghost use Rattle.design_defs.specs.DesignFaults.{FaultKind};
+ghost use Rattle.design_defs.specs.DesignFaults.{FaultKind, HasNoneBefore};
 ghost use Rattle.design_defs.specs.Hierarchy.{Sources};
 ghost use Rattle.design_defs.specs.Inputs.{AreReadSources};
 ghost use Rattle.design_laws.specs.FullNames.{HaveFullNames};
-ghost use Rattle.net_hierarchy.specs.Firstness.{HasNoneBefore, IsCause};
+ghost use Rattle.net_hierarchy.specs.Firstness.{IsCause};
 ghost use Rattle.net_least.specs.OwnFaults.{IsFirstOf};
 ghost use Rattle.net_outline.specs.Outline.{IsOutline};
 ghost use Rattle.net_places.specs.Plans.{IsOf};

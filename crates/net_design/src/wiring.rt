@@ -3,14 +3,14 @@ ghost use Rattle.std.specs.Prelude.{◌≡◌, ◌+◌, ◌≤◌, IfErr, IfOk, 
 ghost use Rattle.std.specs.List.{sum_by};
 ghost use Rattle.list_defs.specs.Orders.{AreAllRising};
 ghost use Rattle.design_defs.specs.Bits.{IsSpot, Spot, spot_cmp};
-ghost use Rattle.design_defs.specs.DesignFaults.{FaultKind, IsFaultless};
+ghost use Rattle.design_defs.specs.DesignFaults.{FaultKind, IsFaultless, HasNoneBefore};
 ghost use Rattle.design_defs.specs.Hierarchy.{Sources};
 ghost use Rattle.design_defs.specs.Inputs.{AreReadSources};
 ghost use Rattle.net_bits.specs.Placed.{ArePlaced};
 ghost use Rattle.net_design.specs.Stages.{AreWired, HaveFewBits};
 ghost use Rattle.net_feeds.specs.Feeds.{AreFedSo};
 ghost use Rattle.net_feeds.specs.LinkNumbers.{AreAllLocal};
-ghost use Rattle.net_hierarchy.specs.Firstness.{HasNoneBefore, IsCause};
+ghost use Rattle.net_hierarchy.specs.Firstness.{IsCause};
 ghost use Rattle.net_hierarchy.specs.Graph.{types_of};
 ghost use Rattle.net_instances.specs.Instances.{own_bits};
 

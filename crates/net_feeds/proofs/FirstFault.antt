@@ -14,7 +14,7 @@ use Rattle.list_defs.specs.Orders.{AreAllRising, name_cmp}
 use Rattle.list_defs.proofs.Members.{IsIn-slice_get}
 use Rattle.list_defs.proofs.Rising.{not_both_before}
 use Rattle.design_defs.specs.Bits.{HasSpotName, IsSpot, Spot, spot_cmp}
-use Rattle.design_defs.specs.DesignFaults.{Fault, FaultKind, HasFirstFault, IsFault, IsTopInput, at_line, fault_cmp, kind_number, place_cmp}
+use Rattle.design_defs.specs.DesignFaults.{Fault, FaultKind, HasFirstFault, IsFault, IsTopInput, at_line, fault_cmp, kind_number, place_cmp, HasNoneBefore}
 use Rattle.design_defs.specs.Hierarchy.{IsOfModule, Sources, Way, path, way_cmp}
 use Rattle.design_defs.specs.Links.{IsLink}
 use Rattle.design_defs.specs.Names.{joined}
@@ -22,7 +22,6 @@ use Rattle.design_defs.specs.Ranges.{bit_name}
 use Rattle.design_defs.proofs.BitOrders.{place_total, way_total}
 use Rattle.design_laws.proofs.SpotLists.{same_way_equal}
 use Rattle.design_laws.proofs.Top.{lower_place}
-use Rattle.net_hierarchy.specs.Firstness.{HasNoneBefore}
 use Rattle.net_hierarchy.specs.Graph.{AreInstsApart}
 use Rattle.net_hierarchy.proofs.NoneBefore.{later_kind, nat_cmp_same, not_less, same_or_less}
 use Rattle.net_instances.specs.declared.numbering.InstanceRow.{InstanceRow}

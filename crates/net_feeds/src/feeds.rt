@@ -1,7 +1,7 @@
 //! What feeds each bit, or the first link to a bit that is fed already.
 ghost use Rattle.std.specs.Prelude.{◌≡◌, List, IfOk, IfErr, length};
 ghost use Rattle.design_defs.specs.Bits.{IsSpot, Spot, spot_cmp};
-ghost use Rattle.design_defs.specs.DesignFaults.{FaultKind, HasFirstFault};
+ghost use Rattle.design_defs.specs.DesignFaults.{FaultKind, HasFirstFault, HasNoneBefore};
 ghost use Rattle.design_defs.specs.Hierarchy.{Sources};
 ghost use Rattle.design_defs.specs.Inputs.{AreReadSources};
 ghost use Rattle.list_defs.specs.Orders.{AreAllRising};
@@ -11,7 +11,7 @@ ghost use Rattle.net_feeds.specs.Feeds.{AreFedSo};
 ghost use Rattle.net_feeds.specs.LinkNumbers.{AreAllLocal, links_before};
 ghost use Rattle.net_feeds.specs.Marked.{AreFed};
 ghost use Rattle.net_feeds.specs.TopInputs.{AreTopMarks};
-ghost use Rattle.net_hierarchy.specs.Firstness.{HasNoneBefore, IsCause};
+ghost use Rattle.net_hierarchy.specs.Firstness.{IsCause};
 ghost use Rattle.net_hierarchy.specs.Graph.{AreInstsApart};
 ghost use Rattle.net_hierarchy.specs.Ordered.{HasNoneOf};
 

@@ -8,10 +8,9 @@ use Rattle.list_defs.specs.Orders.{IsLeast}
 use Rattle.list_defs.proofs.NameLemmas.{same_name-equal, same_name-itself}
 use Rattle.pw_defs.specs.declared.model.Model.{Model}
 use Rattle.pw_defs.specs.declared.netlist.Module.{Module}
-use Rattle.design_defs.specs.DesignFaults.{Fault, FaultKind, IsFault, fault_cmp, kind_number, of_module}
+use Rattle.design_defs.specs.DesignFaults.{Fault, FaultKind, IsFault, fault_cmp, kind_number, of_module, HasNoneBefore}
 use Rattle.design_defs.specs.Hierarchy.{Sources, cell_named, module_at, module_named}
 use Rattle.net_hierarchy.specs.ByName.{AreAlike, IsOtherAmong, lesser, AreNamedApart, HasOtherPorts, IsFirstTwice, IsLeastOther, is_at, is_twice}
-use Rattle.net_hierarchy.specs.Firstness.{HasNoneBefore}
 use Rattle.net_hierarchy.specs.Kinds.{AreKinds, first_place}
 use Rattle.net_hierarchy.specs.declared.kinds.Kinds.{Kinds}
 use Rattle.net_hierarchy.proofs.FoundKinds.{cell_found, module_found}

@@ -4,11 +4,10 @@ use Rattle.std.specs.declared.cmp.Ordering.TheVariants.{Less}
 use Rattle.list_defs.specs.Orders.{IsLeast}
 use Rattle.pw_defs.specs.declared.design.Body.TheVariants.{Module as ModuleBody}
 use Rattle.pw_defs.specs.declared.netlist.Module.{Module}
-use Rattle.design_defs.specs.DesignFaults.{Fault, FaultKind, IsFault, at_no_line, fault_cmp}
+use Rattle.design_defs.specs.DesignFaults.{Fault, FaultKind, IsFault, at_no_line, fault_cmp, HasNoneBefore}
 use Rattle.design_defs.specs.Hierarchy.{IsOfModule, Sources, Way, body_at, body_inside, module_named}
 use Rattle.design_defs.proofs.BitOrders.{fault_total}
 use Rattle.list_defs.proofs.Rising.{not_before_itself}
-use Rattle.net_hierarchy.specs.Firstness.{HasNoneBefore}
 
 module _ (s : Sources) (none : module_named s s.top ≡ None) where
   no_body : (way : Way) → body_at s way ≡ None

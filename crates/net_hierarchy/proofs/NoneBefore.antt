@@ -7,11 +7,10 @@ use Rattle.std.specs.declared.cmp.Ordering.{Ordering}
 use Rattle.std.specs.declared.cmp.Ordering.TheVariants.{Less, Equal, Greater}
 use Rattle.list_defs.specs.Orders.{IsLeast}
 use Rattle.pw_defs.specs.declared.netlist.Module.{Module}
-use Rattle.design_defs.specs.DesignFaults.{Fault, FaultKind, IsFault, fault_cmp, kind_number, of_module}
+use Rattle.design_defs.specs.DesignFaults.{Fault, FaultKind, IsFault, fault_cmp, kind_number, of_module, HasNoneBefore}
 use Rattle.design_defs.specs.Hierarchy.{Sources}
 use Rattle.design_defs.proofs.BitOrders.{fault_total}
 use Rattle.list_defs.proofs.Rising.{not_before_itself}
-use Rattle.net_hierarchy.specs.Firstness.{HasNoneBefore}
 
 pub same_or_less : (a b : ℕ) → a ≤ b → (a ≡ b) ⊎ (a < b)
 same_or_less a b le = elim (cases_lt a b) [ inl less ↦ inr less | inr more ↦ inl (omega arith) ]

@@ -2,10 +2,10 @@
 //! other ports than its model.
 ghost use Rattle.std.specs.Prelude.{◌≡◌, ℕ, ◌<◌, OnOk, IfErr, IfSome, MatchOption, length};
 ghost use Rattle.design_defs.specs.Hierarchy.{Sources};
-ghost use Rattle.design_defs.specs.DesignFaults.{FaultKind};
+ghost use Rattle.design_defs.specs.DesignFaults.{FaultKind, HasNoneBefore};
 ghost use Rattle.net_hierarchy.specs.Kinds.{AreKinds};
 ghost use Rattle.net_hierarchy.specs.ByName.{is_twice, lesser, AreNamedApart, IsFirstTwice, HasOtherPorts, IsOtherAmong};
-ghost use Rattle.net_hierarchy.specs.Firstness.{HasNoneBefore, IsCause};
+ghost use Rattle.net_hierarchy.specs.Firstness.{IsCause};
 
 use crate::kinds::Kinds;
 use crate::rows::{has_ports, name_of, place_of};

@@ -1,8 +1,8 @@
 //! The module that is the top.
 ghost use Rattle.std.specs.Prelude.{◌≡◌, Some, IfOk, IfErr};
-ghost use Rattle.design_defs.specs.DesignFaults.{FaultKind};
+ghost use Rattle.design_defs.specs.DesignFaults.{FaultKind, HasNoneBefore};
 ghost use Rattle.design_defs.specs.Hierarchy.{Sources, module_named};
-ghost use Rattle.net_hierarchy.specs.Firstness.{HasNoneBefore, IsCause};
+ghost use Rattle.net_hierarchy.specs.Firstness.{IsCause};
 ghost use Rattle.net_hierarchy.specs.Kinds.{AreKinds};
 
 use crate::kinds::Kinds;

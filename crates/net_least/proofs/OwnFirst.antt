@@ -6,10 +6,9 @@ use Rattle.std.proofs.lemmas.Option.{same_Some}
 use Rattle.list_defs.specs.Orders.{IsLeast}
 use Rattle.pw_defs.specs.declared.design.Body.TheVariants.{Module as ModuleBody}
 use Rattle.pw_defs.specs.declared.netlist.Module.{Module}
-use Rattle.design_defs.specs.DesignFaults.{Fault, FaultKind, IsFault, at_line, fault_cmp, kind_number}
+use Rattle.design_defs.specs.DesignFaults.{Fault, FaultKind, IsFault, at_line, fault_cmp, kind_number, HasNoneBefore}
 use Rattle.design_defs.specs.Hierarchy.{IsOfModule, Sources, Way, body_at, module_at, module_named, way_cmp}
 use Rattle.design_defs.proofs.BitOrders.{way_exact}
-use Rattle.net_hierarchy.specs.Firstness.{HasNoneBefore}
 use Rattle.net_hierarchy.specs.Ordered.{HasNoneOf}
 use Rattle.design_defs.specs.DesignFaults.{HasFirstFault, answer_of}
 use Rattle.design_defs.proofs.Lookups.{at_outer}

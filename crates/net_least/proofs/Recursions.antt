@@ -7,9 +7,8 @@ use Rattle.list_defs.specs.Orders.{IsLeast}
 use Rattle.pw_defs.specs.declared.design.Body.TheVariants.{Module as ModuleBody}
 use Rattle.pw_defs.specs.declared.netlist.Inst.{Inst}
 use Rattle.pw_defs.specs.declared.netlist.Module.{Module}
-use Rattle.design_defs.specs.DesignFaults.{Fault, FaultKind, IsAtOrAbove, IsFault, at_line, fault_cmp, kind_number}
+use Rattle.design_defs.specs.DesignFaults.{Fault, FaultKind, IsAtOrAbove, IsFault, at_line, fault_cmp, kind_number, HasNoneBefore}
 use Rattle.design_defs.specs.Hierarchy.{IsOfModule, Sources, Way, module_at, type_of, way_cmp, AreNamedInsts}
-use Rattle.net_hierarchy.specs.Firstness.{HasNoneBefore}
 use Rattle.net_hierarchy.specs.Graph.{AreInstsApart}
 use Rattle.net_hierarchy.proofs.NoneBefore.{later_kind, same_or_less}
 use Rattle.net_hierarchy.proofs.Ways.{holds_by}

@@ -2,11 +2,10 @@
 use Rattle.std.proofs.Common.{◌≡◌, ◌≢◌, codes, arith}
 use Rattle.std.specs.declared.cmp.Ordering.TheVariants.{Less}
 use Rattle.list_defs.specs.Orders.{IsLeast}
-use Rattle.design_defs.specs.DesignFaults.{Fault, FaultKind, IsFault, IsTooLarge, at_no_line, fault_cmp, kind_number}
+use Rattle.design_defs.specs.DesignFaults.{Fault, FaultKind, IsFault, IsTooLarge, at_no_line, fault_cmp, kind_number, HasNoneBefore}
 use Rattle.design_defs.specs.Hierarchy.{Sources}
 use Rattle.design_defs.proofs.BitOrders.{fault_total}
 use Rattle.list_defs.proofs.Rising.{not_before_itself}
-use Rattle.net_hierarchy.specs.Firstness.{HasNoneBefore}
 use Rattle.net_hierarchy.specs.Ordered.{HasNoneOf}
 
 -- where two kinds have no fault, those behind them come first

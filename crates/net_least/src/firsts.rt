@@ -1,8 +1,7 @@
 //! The first fault of a kind that modules have wherever they stand, as an answer.
 ghost use Rattle.std.specs.Prelude.{◌≡◌, ℕ, List, Some, IfOk, slice_get};
-ghost use Rattle.design_defs.specs.DesignFaults.{FaultKind};
+ghost use Rattle.design_defs.specs.DesignFaults.{FaultKind, HasNoneBefore};
 ghost use Rattle.design_defs.specs.Hierarchy.{Sources, module_named, AreNamedInsts};
-ghost use Rattle.net_hierarchy.specs.Firstness.{HasNoneBefore};
 ghost use Rattle.net_hierarchy.specs.Graph.{AreInstsApart, IsOrder, types_of};
 ghost use Rattle.net_least.specs.OwnFaults.{AreOwn, IsFirstOf, IsOfLines, own_at};
 

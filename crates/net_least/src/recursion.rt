@@ -1,11 +1,11 @@
 //! An instance of a module that it is inside, as an answer: the first by its path, found by a walk down from the top through
 //! the instances with the least names.
 ghost use Rattle.std.specs.Prelude.{◌≡◌, ◌<◌, ◌↔◌, ℕ, IfOk, IsTrue, Some, length, map};
-ghost use Rattle.design_defs.specs.DesignFaults.{FaultKind, HasFirstFault};
+ghost use Rattle.design_defs.specs.DesignFaults.{FaultKind, HasFirstFault, HasNoneBefore};
 ghost use Rattle.design_defs.specs.Hierarchy.{Sources, module_named, type_of, AreNamedInsts};
 ghost use Rattle.pw_defs.specs.declared.faults.DesignFault.TheVariants.{N9};
 ghost use Rattle.module_rows.specs.Reads.{module_at};
-ghost use Rattle.net_hierarchy.specs.Firstness.{HasNoneBefore, IsCause};
+ghost use Rattle.net_hierarchy.specs.Firstness.{IsCause};
 ghost use Rattle.net_hierarchy.specs.Graph.{AreInstsApart, types_of};
 ghost use Rattle.net_least.specs.Lines.{IsLeastLine};
 ghost use Rattle.net_least.specs.Recursion.{AreFree, Closes, IsBegun, IsMarked, IsOfMarked, module_in};

@@ -1,9 +1,9 @@
 //! An instance of a type that isn't there, as an answer.
 ghost use Rattle.std.specs.Prelude.{◌≡◌, ◌<◌, ◌↔◌, ℕ, IsTrue, IfOk, IfErr, Some, None, length, map, slice_get};
-ghost use Rattle.design_defs.specs.DesignFaults.{FaultKind};
+ghost use Rattle.design_defs.specs.DesignFaults.{FaultKind, HasNoneBefore};
 ghost use Rattle.design_defs.specs.Hierarchy.{Sources, module_named, type_of, AreNamedInsts};
 ghost use Rattle.module_rows.specs.Reads.{module_at};
-ghost use Rattle.net_hierarchy.specs.Firstness.{HasNoneBefore, IsCause};
+ghost use Rattle.net_hierarchy.specs.Firstness.{IsCause};
 ghost use Rattle.net_hierarchy.specs.Graph.{AreInstsApart, IsOrder, types_of};
 ghost use Rattle.net_least.specs.OwnFaults.{AreOwn};
 ghost use Rattle.net_least.specs.Lines.{IsLeastLine, IsUnknown};

@@ -16,7 +16,7 @@ use Rattle.list_defs.proofs.Few.{place_of_member}
 use Rattle.list_defs.proofs.Members.{IsIn-slice_get}
 use Rattle.list_defs.proofs.NameLemmas.{same_name-equal, same_name-itself, differ_behind}
 use Rattle.design_defs.specs.Bits.{IsSpot, Spot, port_named, range_in, range_of, spot_cmp}
-use Rattle.design_defs.specs.DesignFaults.{FaultKind}
+use Rattle.design_defs.specs.DesignFaults.{FaultKind, HasNoneBefore}
 use Rattle.design_defs.specs.Designs.{IsLinked}
 use Rattle.design_defs.specs.Hierarchy.{Sources}
 use Rattle.design_defs.specs.Inputs.{AreReadSources}
@@ -30,12 +30,11 @@ use Rattle.net_bits.specs.Placed.{ArePlaced}
 use Rattle.net_bits.specs.declared.placed.Placed.{Placed}
 use Rattle.net_feeds.specs.LinkNumbers.{AreAllLocal, HasSpotAt, end_number}
 use Rattle.net_feeds.proofs.LinkLemmas.{end_there}
-use Rattle.net_hierarchy.specs.Firstness.{HasNoneBefore}
 use Rattle.net_hierarchy.specs.Graph.{AreInstsApart}
 use Rattle.net_links.specs.LocalLinks.{IsLocalLink, LocalLink, locals}
 use Rattle.net_links.specs.declared.rows.LinkRow.{LinkRow}
-use Rattle.net_loops.proofs.EarlyNames.{one_port}
-use Rattle.net_loops.proofs.OneFeed.{IsFedFrom, fed_from, model_of, one_model}
+use Rattle.design_laws.proofs.NoTwoNames.{one_port}
+use Rattle.design_laws.proofs.OneFeed.{IsFedFrom, fed_from, model_of, one_model}
 
 -- instances of a module that was read have names of their own
 pub insts_apart : (s : Sources) → AreReadSources s → AreInstsApart s

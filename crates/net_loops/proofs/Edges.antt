@@ -14,7 +14,7 @@ use Rattle.list_defs.proofs.Few.{place_of_member}
 use Rattle.list_defs.proofs.Members.{IsIn-append_cases, IsIn-append_left, IsIn-append_right, IsIn-slice_get}
 use Rattle.list_defs.proofs.OneList.{one_place}
 use Rattle.design_defs.specs.Bits.{IsSpot, Spot, range_in, range_of, spot_cmp}
-use Rattle.design_defs.specs.DesignFaults.{FaultKind}
+use Rattle.design_defs.specs.DesignFaults.{FaultKind, HasNoneBefore}
 use Rattle.design_defs.specs.Designs.{IsLinked}
 use Rattle.design_defs.specs.Hierarchy.{Sources, Way, body_at}
 use Rattle.design_defs.specs.Inputs.{AreReadSources}
@@ -29,7 +29,6 @@ use Rattle.net_bits.specs.Standing.{IsLastBegun}
 use Rattle.net_bits.specs.declared.placed.Placed.{Placed}
 use Rattle.net_bits.proofs.Spots.{IsOwner, bit_there, nets_at, nets_of, owner_stands, same_spots, ways}
 use Rattle.net_feeds.specs.Feeds.{AreFedSo, IsFedSo}
-use Rattle.net_hierarchy.specs.Firstness.{HasNoneBefore}
 use Rattle.net_inner.specs.Inside.{AreInnerSources, AreSources, IsFedInside, names_of_bits, source_in}
 use Rattle.net_inner.specs.Pairs.{pairs_of}
 use Rattle.net_inner.specs.declared.inner.Inner.{Inner}
@@ -37,11 +36,11 @@ use Rattle.net_instances.specs.declared.numbering.InstanceRow.{InstanceRow}
 use Rattle.net_places.specs.Nets.{LocalBit, local_bits, spot_of}
 use Rattle.net_rings.specs.Fed.{IsFedBy}
 use Rattle.net_loops.specs.Graphs.{BeginsFirst, IsGraph, IsGraphRow, inner_bit, linked_bit}
-use Rattle.net_loops.proofs.Early.{one_source}
 use Rattle.net_loops.proofs.Insides.{IsNameAt, at_name, feeds_said, local_are, name_at, names_differ, said_feeds}
 use Rattle.net_loops.proofs.InnerSources.{leaf_of_source, some_source, source_of}
-use Rattle.net_loops.proofs.OneFeed.{IsFedFrom, IsGhost, fed_from, one_feed}
 use Rattle.net_loops.proofs.OwnPorts.{IsLeaf}
+use Rattle.design_defs.proofs.OneDesign.{one_source}
+use Rattle.design_laws.proofs.OneFeed.{IsFedFrom, IsGhost, fed_from, one_feed}
 
 in_option : (m : ℕ) (o : Option ℕ) → IsIn m (option_to_list o) → o ≡ Some m
 in_option m None there = absurd there

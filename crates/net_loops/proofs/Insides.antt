@@ -23,7 +23,7 @@ use Rattle.std.specs.Cmp.{IsTotalOrder}
 use Rattle.std.proofs.lemmas.Cmp.{nat_cmp_total, nat_list_cmp_total, on_total, then_total}
 use Rattle.pw_defs.specs.declared.netlist.Port.{Port}
 use Rattle.design_defs.specs.Bits.{IsSpot, Spot, port_named, range_in, range_of, spot_cmp}
-use Rattle.design_defs.specs.DesignFaults.{FaultKind}
+use Rattle.design_defs.specs.DesignFaults.{FaultKind, HasNoneBefore}
 use Rattle.design_defs.specs.Drivers.{is_interface_cell}
 use Rattle.design_defs.specs.Hierarchy.{Sources, Way, body_at}
 use Rattle.design_defs.specs.Inputs.{AreReadSources}
@@ -33,7 +33,6 @@ use Rattle.design_defs.specs.Ranges.{bit_name, width}
 use Rattle.net_bits.specs.Placed.{ArePlaced}
 use Rattle.net_bits.specs.declared.placed.Placed.{Placed}
 use Rattle.net_bits.proofs.Spots.{IsOwner, bit_there, nets_at, nets_of, plan_at, same_spots, ways}
-use Rattle.net_hierarchy.specs.Firstness.{HasNoneBefore}
 use Rattle.net_inner.specs.Inside.{AreInnerSources, AreSources, IsFedInside, local_name, named_in, names_of_bits, source_in}
 use Rattle.net_inner.specs.Pairs.{pairs_if_cell, pairs_if_model, pairs_of, pairs_of_cell, pairs_of_dir, pairs_of_partial, pairs_of_pin, pairs_through}
 use Rattle.net_inner.specs.declared.inner.Inner.{Inner}

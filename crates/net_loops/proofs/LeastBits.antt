@@ -28,11 +28,11 @@ use Rattle.net_loops.specs.Lines.{mark_at}
 use Rattle.net_loops.specs.Ranks.{AreNameRanks}
 use Rattle.net_loops.specs.Ready.{AreReady}
 use Rattle.net_loops.proofs.Between.{between}
-use Rattle.net_loops.proofs.Early.{spot_name}
 use Rattle.net_loops.proofs.Edges.{edge_of, edge_to}
 use Rattle.net_loops.proofs.LoopFaults.{on_ring}
-use Rattle.net_loops.proofs.OneFeed.{IsGhost, one_feed}
 use Rattle.net_loops.proofs.Rings.{are_ranked, least_of_ring, reach_to, ring_of_least}
+use Rattle.design_defs.proofs.OneDesign.{spot_name}
+use Rattle.design_laws.proofs.OneFeed.{IsGhost, one_feed}
 
 -- lists that agree place by place are as long
 zip_length : {A B : Type 0} (R : A → B → Type 0) (xs : List A) (ys : List B) → AllZip R xs ys → length xs ≡ length ys

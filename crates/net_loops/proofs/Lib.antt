@@ -1,7 +1,3 @@
-pub mod Early
-pub mod EarlyNames
-pub mod EarlyModels
-pub mod OneFeed
 pub mod OwnPorts
 pub mod Insides
 pub mod InnerSources

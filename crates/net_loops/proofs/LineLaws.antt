@@ -13,7 +13,7 @@ use Rattle.list_defs.proofs.Few.{place_of_member}
 use Rattle.list_defs.proofs.Members.{IsIn-append_cases, IsIn-append_left, IsIn-append_right, IsIn-flat_map, IsIn-flat_map_from, IsIn-slice_get}
 use Rattle.list_defs.proofs.OneList.{one_place}
 use Rattle.design_defs.specs.Bits.{IsSpot, Spot, spot_cmp}
-use Rattle.design_defs.specs.DesignFaults.{FaultKind}
+use Rattle.design_defs.specs.DesignFaults.{FaultKind, HasNoneBefore}
 use Rattle.design_defs.specs.Hierarchy.{IsOfModule, Sources, Way, body_at, inst_named, module_at, way_cmp}
 use Rattle.design_defs.specs.Inputs.{AreReadSources}
 use Rattle.design_defs.specs.Links.{IsFed, IsInstLine, IsLink}
@@ -30,7 +30,6 @@ use Rattle.net_bits.proofs.Spots.{IsOwner, counted_at, nets_at, nets_of, ways}
 use Rattle.net_feeds.specs.LinkNumbers.{AreAllLocal, HasSpotAt, IsLinkAt, IsLinkOf, links_at, links_of_rows, rows_of_body, rows_of_row}
 use Rattle.net_feeds.specs.declared.links.LinkAt.{LinkAt}
 use Rattle.net_feeds.proofs.LinkLemmas.{link_at_number, link_of, module_there}
-use Rattle.net_hierarchy.specs.Firstness.{HasNoneBefore}
 use Rattle.net_inner.specs.Inside.{AreInnerSources, IsFedInside, source_in}
 use Rattle.net_inner.specs.declared.inner.Inner.{Inner}
 use Rattle.net_instances.specs.Instances.{HasChildAt, child_in}

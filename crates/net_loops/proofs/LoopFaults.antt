@@ -19,13 +19,12 @@ use Rattle.list_defs.proofs.Members.{IsIn-slice_get}
 use Rattle.list_defs.proofs.OneList.{one_place}
 use Rattle.list_defs.proofs.Rising.{not_before_itself}
 use Rattle.design_defs.specs.Bits.{HasSpotName, IsSpot, Spot, spot_cmp}
-use Rattle.design_defs.specs.DesignFaults.{Fault, FaultKind, HasFirstFault, IsFault, IsLeastOnRing, answer_of, at_line, fault_cmp, kind_number, place_of_fault}
+use Rattle.design_defs.specs.DesignFaults.{Fault, FaultKind, HasFirstFault, IsFault, IsLeastOnRing, answer_of, at_line, fault_cmp, kind_number, place_of_fault, HasNoneBefore}
 use Rattle.design_defs.specs.Hierarchy.{IsOfModule, Sources, Way, body_at, module_at, way_cmp}
 use Rattle.design_defs.specs.Links.{Feeds, IsFed, IsModelFeed}
 use Rattle.design_defs.proofs.BitOrders.{spot_total, way_total}
 use Rattle.design_laws.proofs.Top.{rising_places}
 use Rattle.net_hierarchy.specs.Ordered.{HasNoneOf}
-use Rattle.net_hierarchy.specs.Firstness.{HasNoneBefore}
 use Rattle.design_defs.specs.Inputs.{AreReadSources}
 use Rattle.net_bits.specs.Placed.{ArePlaced}
 use Rattle.net_bits.specs.declared.placed.Placed.{Placed}
@@ -39,7 +38,7 @@ use Rattle.net_loops.specs.Lines.{HasNoneAt, IsFirstAt, IsNotBehind, lines_at, m
 use Rattle.net_loops.specs.declared.lines.Candidate.{Candidate}
 use Rattle.net_loops.proofs.Between.{between, input_of, link_spot, through_spot}
 use Rattle.net_loops.proofs.LineLaws.{IsLineAt, feeds_line, line_feeds}
-use Rattle.net_loops.proofs.OneFeed.{IsGhost, one_feed}
+use Rattle.design_laws.proofs.OneFeed.{IsGhost, one_feed}
 
 -- a thing compared with itself
 itself : {X : Type 0} (cmp : X → X → Ordering) → IsTotalOrder cmp → (x : X) → cmp x x ≡ Equal

@@ -10,13 +10,12 @@ use Rattle.list_defs.proofs.Few.{place_of_member}
 use Rattle.list_defs.proofs.NameLemmas.{IsIn-list_any, same_name-equal}
 use Rattle.list_defs.proofs.Rising.{found_in}
 use Rattle.design_defs.specs.Bits.{Spot, port_named, range_in, range_of}
-use Rattle.design_defs.specs.DesignFaults.{FaultKind, HasPortAt}
+use Rattle.design_defs.specs.DesignFaults.{FaultKind, HasPortAt, HasNoneBefore}
 use Rattle.design_defs.specs.Hierarchy.{Sources, body_at, ports_in}
 use Rattle.design_defs.specs.Ranges.{bit_name, width}
 use Rattle.design_defs.proofs.BitOrders.{spot_of_parts}
 use Rattle.design_laws.proofs.PortBits.{port_of_way}
-use Rattle.net_hierarchy.specs.Firstness.{HasNoneBefore}
-use Rattle.net_loops.proofs.EarlyNames.{one_port_bit}
+use Rattle.design_laws.proofs.PortBitNames.{one_port_bit}
 
 -- a body that shows nothing inside: a cell or a model
 abbrev pub IsLeaf : Body → Type 0

@@ -21,8 +21,8 @@ use Rattle.net_rings.specs.Least.{AreAllRanked, AreRanked, HasRank, IsFedFrom, I
 use Rattle.net_rings.specs.declared.minima.Ranked.{Ranked}
 use Rattle.net_loops.specs.Ranks.{AreNameRanks}
 use Rattle.list_defs.proofs.Rising.{not_before_itself}
-use Rattle.net_loops.proofs.Early.{spot_name}
-use Rattle.net_loops.proofs.OneFeed.{IsGhost}
+use Rattle.design_defs.proofs.OneDesign.{spot_name}
+use Rattle.design_laws.proofs.OneFeed.{IsGhost}
 
 module _ (s : Sources) (spots : List Spot) (all : AreAllRising spot_cmp (IsSpot s) spots) (graph : List (List ℕ))
     (edge_of : (n m : ℕ) → IsFedBy graph n m → (x y : Spot) × (slice_get spots n ≡ Some x) × (slice_get spots m ≡ Some y) × Feeds s x y)

@@ -2,14 +2,13 @@
 ghost use Rattle.std.specs.Prelude.{◌≡◌, true, List, IfOk, Some, option_map, set, slice_get};
 ghost use Rattle.list_defs.specs.Orders.{AreAllRising};
 ghost use Rattle.design_defs.specs.Bits.{IsSpot, Spot, spot_cmp};
-ghost use Rattle.design_defs.specs.DesignFaults.{FaultKind};
+ghost use Rattle.design_defs.specs.DesignFaults.{FaultKind, HasNoneBefore};
 ghost use Rattle.design_rows.specs.declared.tables.Feed.{Feed as PlainFeed};
 ghost use Rattle.design_defs.specs.Hierarchy.{Sources};
 ghost use Rattle.design_defs.specs.Inputs.{AreReadSources};
 ghost use Rattle.net_bits.specs.Placed.{ArePlaced};
 ghost use Rattle.net_feeds.specs.Feeds.{AreFedSo};
 ghost use Rattle.net_feeds.specs.LinkNumbers.{AreAllLocal};
-ghost use Rattle.net_hierarchy.specs.Firstness.{HasNoneBefore};
 ghost use Rattle.net_inner.specs.Inside.{AreInnerSources};
 ghost use Rattle.net_links.specs.declared.rows.LinkRow.{LinkRow};
 ghost use Rattle.net_loops.specs.Least.{AreLeastBits, AreMarked, AreMarkedRanks, IsFaultAt, IsLeastAnswer, IsLoopAnswer, with_rank};

@@ -15,12 +15,11 @@ use Rattle.list_defs.specs.Orders.{IsLeast, IsRising, name_cmp}
 use Rattle.list_defs.proofs.Few.{place_of_member}
 use Rattle.list_defs.proofs.OneList.{one_place}
 use Rattle.list_defs.proofs.Rising.{not_before_itself, not_both_before, rising_at}
-use Rattle.design_defs.specs.DesignFaults.{Fault, FaultKind, HasFirstFault, HasThingName, IsFault, StandsAt, Thing, at_line, fault_cmp, kind_number, place_of_fault, way_of}
+use Rattle.design_defs.specs.DesignFaults.{Fault, FaultKind, HasFirstFault, HasThingName, IsFault, StandsAt, Thing, at_line, fault_cmp, kind_number, place_of_fault, way_of, HasNoneBefore}
 use Rattle.design_defs.specs.Hierarchy.{IsInstance, IsOfModule, Sources, Way, way_cmp}
 use Rattle.design_defs.proofs.BitOrders.{way_exact, way_total}
 use Rattle.module_rows.specs.declared.plain.Netlist.{Netlist}
 use Rattle.net_hierarchy.proofs.NoneBefore.{later_kind, nat_cmp_same, same_or_less}
-use Rattle.net_hierarchy.specs.Firstness.{HasNoneBefore}
 use Rattle.net_hierarchy.specs.Ordered.{HasNoneOf}
 use Rattle.net_instances.specs.Instances.{AreInstances}
 use Rattle.net_instances.specs.declared.numbering.Instances.{Instances}

@@ -1,10 +1,9 @@
 //! The first joined name that two things have, as an answer.
 ghost use Rattle.std.specs.Prelude.{◌≡◌, IfOk, MatchOption};
 ghost use Rattle.pw_defs.specs.declared.faults.DesignFault.TheVariants.{N12};
-ghost use Rattle.design_defs.specs.DesignFaults.{FaultKind, HasFirstFault};
+ghost use Rattle.design_defs.specs.DesignFaults.{FaultKind, HasFirstFault, HasNoneBefore};
 ghost use Rattle.design_defs.specs.Hierarchy.{Sources, AreNamedInsts};
 ghost use Rattle.design_defs.specs.Inputs.{AreReadSources};
-ghost use Rattle.net_hierarchy.specs.Firstness.{HasNoneBefore};
 ghost use Rattle.net_hierarchy.specs.Ordered.{HasNoneOf};
 ghost use Rattle.net_instances.specs.Instances.{AreInstances};
 ghost use Rattle.net_names.specs.Answers.{IsAnswer};

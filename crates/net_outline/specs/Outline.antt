@@ -2,10 +2,9 @@
 use Rattle.std.specs.Prelude.{◌≡◌, ℕ, List, Some, map}
 use Rattle.pw_defs.specs.declared.design.Body.{Body}
 use Rattle.pw_defs.specs.declared.design.Body.TheVariants.{Module as ModuleBody, Cell as CellBody, Model as ModelBody}
-use Rattle.design_defs.specs.DesignFaults.{FaultKind}
+use Rattle.design_defs.specs.DesignFaults.{FaultKind, HasNoneBefore}
 use Rattle.design_defs.specs.Hierarchy.{Sources, module_named, HasBody}
 use Rattle.module_rows.specs.declared.plain.Netlist.{Netlist}
-use Rattle.net_hierarchy.specs.Firstness.{HasNoneBefore}
 use Rattle.net_hierarchy.specs.Graph.{IsOrder, types_of}
 use Rattle.net_places.specs.declared.plans.Plans.{Plans}
 use Rattle.net_places.specs.Gathered.{net_by}

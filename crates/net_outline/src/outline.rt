@@ -1,10 +1,10 @@
 //! The outline of a design, or its first fault of names, types or size.
 ghost use Rattle.std.specs.Prelude.{◌≡◌, IfErr, IfOk, Some};
-ghost use Rattle.design_defs.specs.DesignFaults.{FaultKind};
+ghost use Rattle.design_defs.specs.DesignFaults.{FaultKind, HasNoneBefore};
 ghost use Rattle.design_defs.specs.Hierarchy.{Sources, module_named, AreNamedInsts};
 ghost use Rattle.design_defs.specs.Inputs.{AreReadSources};
 ghost use Rattle.design_laws.specs.FullNames.{HaveFullNames};
-ghost use Rattle.net_hierarchy.specs.Firstness.{HasNoneBefore, IsCause};
+ghost use Rattle.net_hierarchy.specs.Firstness.{IsCause};
 ghost use Rattle.net_hierarchy.specs.Graph.{AreInstsApart, IsOrder, types_of};
 ghost use Rattle.net_hierarchy.specs.Kinds.{AreKinds};
 ghost use Rattle.net_outline.specs.Outline.{IsOutline};

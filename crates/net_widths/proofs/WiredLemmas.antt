@@ -10,12 +10,11 @@ use Rattle.pw_defs.specs.declared.netlist.Module.{Module}
 use Rattle.pw_defs.specs.declared.netlist.Port.{Port}
 use Rattle.list_defs.specs.Members.{IsIn}
 use Rattle.list_defs.proofs.Members.{IsIn-append_left, IsIn-append_right}
-use Rattle.design_defs.specs.DesignFaults.{FaultKind, IsFault, at_line}
+use Rattle.design_defs.specs.DesignFaults.{FaultKind, IsFault, at_line, HasNoneBefore}
 use Rattle.design_defs.specs.Hierarchy.{IsOfModule, Sources, Way, type_of}
 use Rattle.design_defs.specs.Links.{port_of_conn}
 use Rattle.design_defs.specs.Places.{misselected, names_in, signals}
 use Rattle.design_defs.specs.Ranges.{width}
-use Rattle.net_hierarchy.specs.Firstness.{HasNoneBefore}
 use Rattle.net_runs.specs.Wired.{IsAssignWired, IsConnWired, IsWired}
 use Rattle.net_widths.specs.WiredLines.{HasTargets, HasWiredLines}
 

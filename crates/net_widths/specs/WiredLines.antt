@@ -3,10 +3,9 @@ use Rattle.std.specs.Prelude.{◌≢◌, ℕ, []}
 use Rattle.pw_defs.specs.declared.netlist.Assign.{Assign}
 use Rattle.pw_defs.specs.declared.netlist.Module.{Module}
 use Rattle.list_defs.specs.Members.{IsIn}
-use Rattle.design_defs.specs.DesignFaults.{FaultKind}
+use Rattle.design_defs.specs.DesignFaults.{FaultKind, HasNoneBefore}
 use Rattle.design_defs.specs.Hierarchy.{IsOfModule, Sources, Way}
 use Rattle.design_defs.specs.Places.{names_in}
-use Rattle.net_hierarchy.specs.Firstness.{HasNoneBefore}
 use Rattle.net_runs.specs.Wired.{IsWired}
 
 -- each assignment of a module names something on its left side

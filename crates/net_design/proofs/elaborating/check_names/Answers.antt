@@ -2,9 +2,8 @@ use Rattle.std.proofs.Common.{Option, inr, refl, subst}
 use Rattle.std.specs.Prelude.{MatchOption}
 use Rattle.pw_defs.specs.declared.faults.AtModule.{AtModule}
 use Rattle.pw_defs.specs.declared.faults.DesignFault.TheVariants.{N12}
-use Rattle.design_defs.specs.DesignFaults.{FaultKind, HasFirstFault}
+use Rattle.design_defs.specs.DesignFaults.{FaultKind, HasFirstFault, HasNoneBefore}
 use Rattle.net_design.proofs.FaultKinds.{none_before_next}
-use Rattle.net_hierarchy.specs.Firstness.{HasNoneBefore}
 use Rattle.net_hierarchy.specs.Ordered.{HasNoneOf}
 use Rattle.net_design.proofs.elaborating.check_names.Goals as goal
 

@@ -1,7 +1,4 @@
-use Rattle.std.proofs.Common.{◌≡◌, ℕ, List, Some, sym, subst}
-use Rattle.design_defs.specs.DesignFaults.{FaultKind}
-use Rattle.design_defs.specs.Hierarchy.{Sources, module_named}
-use Rattle.net_hierarchy.specs.Firstness.{HasNoneBefore}
+use Rattle.std.proofs.Common.{◌≡◌, ℕ, List, sym, subst}
 use Rattle.net_hierarchy.specs.Graph.{IsOrder, types_of}
 use Rattle.net_outline.specs.Outline.{own_places}
 use Rattle.net_outline.proofs.Counting.{are_counted, own_spots}

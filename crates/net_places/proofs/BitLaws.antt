@@ -24,6 +24,9 @@ use Rattle.design_defs.specs.Hierarchy.{Sources, Way, body_at, number_named, por
 use Rattle.design_defs.specs.Ranges.{width}
 use Rattle.design_defs.proofs.BitOrders.{way_total}
 use Rattle.net_places.specs.Nets.{AreLocalBits, AreOwnNets, HasAllSpots, HasBitNumbers, HasSpotNumbers, IsLocalBit, LocalBit, OwnNet, all_spots, bit_count, bit_of, bits_of_net, local_bits, local_cmp, net_cmp, own_net, spot_of, spots_of}
+use Rattle.net_places.specs.declared.rows.NetRow.{NetRow}
+use Rattle.net_places.specs.Gathered.{net_by}
+use Rattle.net_places.specs.Tables.{bits_in}
 
 -- what holds of each is shown for each
 by_each : {X : Type 0} (P : X → Type 0) (xs : List X) → ((x : X) → IsIn x xs → P x) → AllByRecursion P xs

@@ -2,7 +2,6 @@
 use Rattle.std.specs.Prelude.{◌≡◌, ℕ, ◌+◌, ◌<◌, ◌≤◌, List, [], ◌∷◌, ◌++◌, Option, Some, None, decimal, slice_get}
 use Rattle.design_defs.specs.Bits.{Spot, range_in}
 use Rattle.design_defs.specs.Hierarchy.{Sources, Way, body_at}
-use Rattle.design_defs.specs.Ranges.{index_at}
 use Rattle.net_places.specs.Plans.{names_in}
 use Rattle.net_instances.specs.declared.numbering.InstanceRow.{InstanceRow}
 use Rattle.net_bits.specs.declared.owners.BitPlace.{BitPlace}
@@ -30,8 +29,3 @@ pub record IsPlaceOf (s : Sources) (symbols : List (List ℕ)) (ways : List Way)
   pub net : slice_get (names_in symbols s at.body) at.name ≡ Some x.net
   pub range : range_in s at.body x.net ≡ Some at.range
   pub place : x.place ≡ at.place
-
--- what stands behind the name of a net in the name of its bit: of a vector the index in brackets
-abbrev pub index_text : Option (ℕ × ℕ) → ℕ → List ℕ
-index_text None place = []
-index_text (Some r) place = 91 ∷ decimal (index_at r place) ++ 93 ∷ []

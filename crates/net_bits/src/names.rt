@@ -2,16 +2,14 @@
 ghost use Rattle.std.specs.Prelude.{◌≡◌, ℕ, ◌++◌, List, OnOk, Some, option_map, slice_get};
 ghost use Rattle.design_defs.specs.Bits.{HasSpotName, IsSpot, Spot, spot_cmp};
 ghost use Rattle.design_defs.specs.Hierarchy.{Sources};
-ghost use Rattle.design_defs.specs.Ranges.{bit_name, index_at};
+ghost use Rattle.design_defs.specs.Ranges.{bit_name};
 ghost use Rattle.list_defs.specs.Orders.{AreAllRising};
 ghost use Rattle.net_places.specs.Plans.{IsOf, names_in};
 ghost use Rattle.net_bits.specs.Placed.{ArePlaced};
-ghost use Rattle.net_bits.specs.Standing.{index_text};
 
 use crate::owners::place_of_bit;
 use crate::paths::{put_path, put_slash};
 use crate::placed::Placed;
-use itoa::Buffer;
 use module_rows::Modules;
 use pw_defs::{Body, Bytes, Cells, List, Memory, Model};
 use std::alloc::Global;
@@ -39,34 +37,6 @@ fn spelling<'a>(
     }
 }
 
-/// The index that stands at a place of a vector.
-fn index_at(range: (u32, u32), place: u32) -> u64
-    ensures { result ≡ index_at range place }
-{
-    let (left, right) = range;
-    if right <= left {
-        u64::from(left.saturating_sub(place))
-    } else {
-        u64::from(left) + u64::from(place)
-    }
-}
-
-/// Appends the index in brackets where the net is a vector.
-fn put_index(range: Option<(u32, u32)>, place: u32, out: &mut Bytes) -> Result<(), Memory>
-    ensures { OnOk result (out.new ≡ out.old ++ index_text range place) }
-{
-    match range {
-        Some(range) => {
-            let mut buffer = Buffer::new();
-            out.put(b"[")?;
-            out.put(buffer.format(index_at(range, place)).as_bytes())?;
-            out.put(b"]")?;
-        }
-        None => {}
-    }
-    Ok(())
-}
-
 /// Appends the name of a bit of a body, without the path of an instance: the name of the net, and of a vector the index in
 /// brackets. The name of the net is a symbol in a module, and the number of the pin or port in a cell or a model.
 pub fn put_local_name(
@@ -81,8 +51,7 @@ pub fn put_local_name(
         → slice_get (names_in placed.now.modules.now.symbols s body) name ≡ Some net → out.new ≡ out.old ++ bit_name net range place) }
 {
     let net = spelling(placed.modules, placed.cells, placed.models, body, name).ok_or(Memory)?;
-    out.put(net)?;
-    put_index(range, place, out)?;
+    bit_texts::put_bit_name(net, range, u64::from(place), out)?;
     Ok(())
 }
 

@@ -5,7 +5,6 @@ ghost use Rattle.pw_defs.specs.declared.design.Body.TheVariants.{Module as Modul
 ghost use Rattle.design_defs.specs.Bits.{IsSpot, Spot, spot_cmp};
 ghost use Rattle.design_defs.specs.Hierarchy.{Sources};
 ghost use Rattle.design_defs.specs.Inputs.{AreReadSources};
-ghost use Rattle.design_defs.specs.Ranges.{width};
 ghost use Rattle.list_defs.specs.Orders.{AreAllRising};
 ghost use Rattle.net_bits.specs.Placed.{ArePlaced};
 ghost use Rattle.net_places.specs.Plans.{rows_at};
@@ -14,21 +13,9 @@ ghost use Rattle.net_feeds.specs.TopInputs.{AreMarkedAlso, AreTopMarks, IsInputB
 use crate::instances::module_of;
 use module_rows::Modules;
 use net_bits::Placed;
-use net_places::Plans;
+use net_places::{Plans, width};
 use pw_defs::{Body, Dir, Memory};
 use std::alloc::Global;
-
-/// How many bits a net has.
-fn width(range: Option<(u32, u32)>) -> u64
-    ensures { result ≡ width range }
-{
-    match range {
-        Some((left, right)) => {
-            u64::from(left.saturating_sub(right)) + u64::from(right.saturating_sub(left)) + 1
-        }
-        None => 1,
-    }
-}
 
 /// Whether a direction is that of an input.
 fn is_input(dir: Dir) -> bool

@@ -6,7 +6,6 @@
 //! of isolation cells and level shifters, are fed by their own instances in place of a link.
 #![tactic(auto)]
 
-mod bits;
 mod feeding;
 mod framing;
 mod owners;

@@ -1,7 +1,7 @@
 //! The places of the bits of a body, net by net.
-ghost use Rattle.std.specs.Prelude.{◌≡◌, ◌<◌, ◌∷◌, [], ℕ, IfOk, option_map, slice_get};
+ghost use Rattle.std.specs.Prelude.{◌≡◌, ◌∷◌, [], ℕ, IfOk, option_map, slice_get};
 ghost use Rattle.pw_defs.specs.declared.design.Body.TheVariants.{Cell as CellBody, Model as ModelBody};
-ghost use Rattle.design_defs.specs.Ranges.{bit_name, width};
+ghost use Rattle.design_defs.specs.Ranges.{bit_name};
 ghost use Rattle.design_rows.specs.Sound.{AreRows};
 ghost use Rattle.design_rows.specs.View.{place_name, port_in};
 ghost use Rattle.module_rows.specs.declared.plain.Netlist.{Netlist};
@@ -9,10 +9,10 @@ ghost use Rattle.module_rows.specs.View.{name_at};
 ghost use Rattle.net_places.specs.Gathered.{net_by};
 ghost use Rattle.net_frames.specs.Places.{HasBitName, HasPlaces, IsSymbolOf, bits_in, net_bits, spellings};
 
-use crate::bits::{bit_name, width};
+use bit_texts::bit_name;
 use design_rows::{PlaceRow, Rows};
 use module_rows::Modules;
-use net_places::{NetRow, Plans};
+use net_places::{NetRow, Plans, width};
 use pw_defs::{Body, Bytes, Memory};
 
 /// The name of a pin of a cell.
@@ -60,11 +60,10 @@ fn name_text(
     row: NetRow,
     place: u32,
 ) -> Result<Bytes, Memory>
-    requires { place < width row.range }
     ensures { IfOk result (λ text. text ≡ bit_name (name_at (spellings modules.now rows.now body) row.name) row.range place) }
 {
     let name = net_name(modules, rows, body, row.name).ok_or(Memory)?;
-    let text = bit_name(*rows.feeds.allocator(), name, row.range, place)?;
+    let text = bit_name(*rows.feeds.allocator(), name, row.range, u64::from(place))?;
     Ok(text)
 }
 
@@ -91,7 +90,6 @@ fn name_of_bit(
     place: u32,
 ) -> Result<u32, Memory>
     requires rows { AreRows rows.old }
-    requires within { place < width row.range }
     ensures rows { AreRows rows.new }
     ensures named { IfOk result (λ name. HasBitName modules.now rows.old rows.new body row place name) }
 {
@@ -123,7 +121,6 @@ fn add_bit(
     place: u32,
 ) -> Result<(), Memory>
     requires rows { AreRows rows.old }
-    requires within { place < width row.range }
     ensures rows { AreRows rows.new }
     ensures added { IfOk result (λ _. HasPlaces modules.now rows.old rows.new ((net_by (spellings modules.now rows.old body) row, place) ∷ [])) }
 {

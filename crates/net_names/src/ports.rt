@@ -6,8 +6,10 @@ ghost use Rattle.module_rows.specs.Reads.{module_at};
 ghost use Rattle.net_names.specs.Meets.{HasMetCell, HasMetModel, bits_at, met_all, port_at, ports_at};
 
 use crate::meeting::{Meeting, Place, meet};
-use crate::spelling::{bit_text, joined, width};
+use crate::spelling::joined;
+use bit_texts::bit_name;
 use module_rows::Modules;
+use net_places::width;
 use pw_defs::{Cells, List, Memory, Model, Pin, Port};
 use std::alloc::Global;
 
@@ -21,8 +23,8 @@ fn meet_bits(
 ) -> Result<(), Memory>
     ensures { IfOk result (λ _. meeting.new ≡ met_all meeting.old (bits_at place name.now range (width (Some range)))) }
 {
-    for at in 0..width(range) {
-        let text = bit_text(alloc, name, range, at)?;
+    for at in 0..width(Some(range)) {
+        let text = bit_name(alloc, name, Some(range), at)?;
         meet(alloc, meeting, place, text.as_slice())?;
     }
     Ok(())

@@ -5,7 +5,6 @@ use Rattle.std.specs.List.{enumerate_from, filter_map, range_with_len, zip}
 use Rattle.std.proofs.Math.Nat.{min-eq_left}
 use Rattle.std.proofs.lemmas.Grind.{flat_map-append}
 use Rattle.std.proofs.lemmas.List.{length-append, map-append, take-append-drop}
-use Rattle.std.proofs.lemmas.List.FromFn.{length-map-range_with_len}
 use Rattle.std.proofs.lemmas.List.Elements.{filter_map-append}
 use Rattle.pw_defs.specs.declared.cells.Dir.{Dir}
 use Rattle.pw_defs.specs.declared.cells.Dir.TheVariants.{Input, Output}
@@ -13,10 +12,10 @@ use Rattle.net_places.proofs.Steps.{flat_more}
 use Rattle.net_runs.specs.declared.runs.Run.{Run}
 use Rattle.net_runs.specs.declared.runs.Run.TheVariants.{Bits, Constants}
 use Rattle.net_runs.specs.Leaves.{runs_bits}
-use Rattle.net_runs.specs.LocalNumbers.{run_bits}
+use Rattle.net_runs.specs.LocalNumbers.{run_bits, count_of}
 use Rattle.net_links.specs.declared.rows.LinkEnd.TheVariants.{Own, Child}
 use Rattle.net_links.specs.LocalLinks.{LocalLink, end_after, links_of_row}
-use Rattle.net_links.specs.RunLinks.{AreFew, AreFewOwn, IsFewBit, IsNarrow, IsNarrowEnd, count_of, end_of_run, local_in, local_out, locals_of_port, own_end, row_in, row_out}
+use Rattle.net_links.specs.RunLinks.{AreFew, AreFewOwn, IsFewBit, IsNarrow, IsNarrowEnd, end_of_run, local_in, local_out, locals_of_port, own_end, row_in, row_out}
 use Rattle.list_defs.proofs.Rising.{each_front, each_behind}
 
 -- LISTS of numbers, and what is made from them
@@ -86,10 +85,6 @@ bit_at (Constants count) k = None
 pub run_is : (run : Run) → run_bits run ≡ map (bit_at run) (range_with_len 0 (count_of run))
 run_is (Bits first count) = refl
 run_is (Constants count) = refl
-
-pub run_length : (run : Run) → length (run_bits run) ≡ count_of run
-run_length (Bits first count) = length-map-range_with_len (λ k. Some (first + k)) 0 count
-run_length (Constants count) = length-map-range_with_len (λ k. None) 0 count
 
 pub end_is : (run : Run) (k : ℕ) → own_end (bit_at run k) ≡ end_after (end_of_run run) k
 end_is (Bits first count) k = refl

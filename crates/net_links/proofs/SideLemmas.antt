@@ -9,11 +9,12 @@ use Rattle.std.proofs.lemmas.List.FromFn.{take-map-range_with_len}
 use Rattle.net_runs.specs.declared.runs.Run.{Run}
 use Rattle.net_runs.specs.declared.runs.Run.TheVariants.{Bits, Constants}
 use Rattle.net_runs.specs.Leaves.{runs_bits}
-use Rattle.net_runs.specs.LocalNumbers.{run_bits}
+use Rattle.net_runs.specs.LocalNumbers.{run_bits, count_of}
 use Rattle.net_links.specs.LocalLinks.{LocalLink, end_after, links_of_row}
-use Rattle.net_links.specs.RunLinks.{AreFew, AreFewOwn, IsFewBit, IsFewOwn, IsNarrow, bits_back, count_of, end_of_run, local_across, locals_of_sides, own_end, row_across}
-use Rattle.net_links.proofs.RunLemmas.{bit_at, drop_range, end_is, few_of_own, few_run, narrow_run, not_cut, own_run, run_is, run_length, shifted, zip_append, zipped}
+use Rattle.net_links.specs.RunLinks.{AreFew, AreFewOwn, IsFewBit, IsFewOwn, IsNarrow, bits_back, end_of_run, local_across, locals_of_sides, own_end, row_across}
+use Rattle.net_links.proofs.RunLemmas.{bit_at, drop_range, end_is, few_of_own, few_run, narrow_run, not_cut, own_run, run_is, shifted, zip_append, zipped}
 use Rattle.list_defs.proofs.Rising.{each_front, each_behind}
+use Rattle.net_runs.proofs.RunLemmas.{run_length}
 
 -- a run is added in front of those that are given from the last one on
 back_more : (runs : List Run) (run : Run) → bits_back (runs ++ run ∷ []) ≡ run_bits run ++ bits_back runs

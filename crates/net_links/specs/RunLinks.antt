@@ -6,6 +6,7 @@ use Rattle.pw_defs.specs.declared.cells.Dir.TheVariants.{Input, Output}
 use Rattle.net_runs.specs.declared.runs.Run.{Run}
 use Rattle.net_runs.specs.declared.runs.Run.TheVariants.{Bits, Constants}
 use Rattle.net_runs.specs.Leaves.{runs_bits}
+use Rattle.net_runs.specs.LocalNumbers.{count_of}
 use Rattle.net_links.specs.declared.rows.LinkEnd.{LinkEnd}
 use Rattle.net_links.specs.declared.rows.LinkEnd.TheVariants.{Own, Child, Constant}
 use Rattle.net_links.specs.declared.rows.LinkRow.{LinkRow}
@@ -38,14 +39,10 @@ local_across line e = record { fed = own_end e.0; source = own_end e.1; line = l
 abbrev pub locals_of_sides : ℕ → List (Option ℕ) → List (Option ℕ) → List LocalLink
 locals_of_sides line left right = map (local_across line) (zip left right)
 
--- the end that a run begins with, and how many bits it has
+-- the end that a run begins with
 abbrev pub end_of_run : Run → LinkEnd
 end_of_run (Bits first count) = Own first
 end_of_run (Constants count) = Constant
-
-abbrev pub count_of : Run → ℕ
-count_of (Bits first count) = count
-count_of (Constants count) = count
 
 -- the bits of an input from one on, with the run that is connected there
 abbrev pub row_in : ℕ → ℕ → ℕ → Run → LinkRow

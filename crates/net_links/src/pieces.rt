@@ -4,9 +4,9 @@ ghost use Rattle.pw_defs.specs.declared.cells.Dir.TheVariants.{Input, Output};
 ghost use Rattle.net_links.specs.declared.rows.LinkEnd.TheVariants.{Own, Child};
 ghost use Rattle.net_links.specs.declared.rows.LinkRow.{LinkRow as Row};
 ghost use Rattle.net_links.specs.LocalLinks.{links_of_row, locals};
-ghost use Rattle.net_links.specs.RunLinks.{AreFew, AreFewOwn, IsEndIfNarrow, IsNarrow, bits_back, count_of, end_of_run, locals_of_port, locals_of_sides};
+ghost use Rattle.net_links.specs.RunLinks.{AreFew, AreFewOwn, IsEndIfNarrow, IsNarrow, bits_back, end_of_run, locals_of_port, locals_of_sides};
 ghost use Rattle.net_runs.specs.Leaves.{runs_bits};
-ghost use Rattle.net_runs.specs.LocalNumbers.{run_bits};
+ghost use Rattle.net_runs.specs.LocalNumbers.{run_bits, count_of};
 
 use crate::rows::{LinkEnd, LinkRow};
 use net_runs::Run;

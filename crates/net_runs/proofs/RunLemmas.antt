@@ -7,6 +7,7 @@ use Rattle.std.proofs.Math.Nat.{min-eq_left}
 use Rattle.std.proofs.lemmas.Grind.{flat_map-append}
 use Rattle.std.proofs.lemmas.Bool.{false≢true, leb-true}
 use Rattle.std.proofs.lemmas.List.{get_or-drop, get_or-take, length-drop, length-take}
+use Rattle.std.proofs.lemmas.List.FromFn.{length-map-range_with_len}
 use Rattle.std.proofs.lemmas.Option.{same_Some, slice_get-get_or}
 use Rattle.pw_defs.specs.declared.design.Body.{Body}
 use Rattle.pw_defs.specs.declared.design.Body.TheVariants.{Module as ModuleBody}
@@ -34,7 +35,12 @@ use Rattle.net_runs.specs.declared.runs.Run.{Run}
 use Rattle.net_runs.specs.declared.runs.Run.TheVariants.{Bits, Constants}
 use Rattle.net_runs.specs.Known.{IsNetRow}
 use Rattle.net_runs.specs.Leaves.{AddsRun, AreRunOf, AreRuns, AreRunsOf, IsLeafRun, IsRun, IsSelection, StandsIn, part_run, run_between, runs_bits}
-use Rattle.net_runs.specs.LocalNumbers.{IsBitNumber, IsSignalBit, run_bits}
+use Rattle.net_runs.specs.LocalNumbers.{IsBitNumber, IsSignalBit, run_bits, count_of}
+
+-- a run has as many bits as it counts
+pub run_length : (run : Run) → length (run_bits run) ≡ count_of run
+run_length (Bits first count) = length-map-range_with_len (λ k. Some (first + k)) 0 count
+run_length (Constants count) = length-map-range_with_len (λ k. None) 0 count
 
 -- places of a net whose bits have numbers one behind another
 places_numbered : (s : Sources) (body : Body) (name : List ℕ) (first end place base : ℕ) → ((p : ℕ) → p < end → IsBitNumber s body (name, p) (first + p)) → (n k : ℕ)

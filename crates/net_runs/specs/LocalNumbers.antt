@@ -26,6 +26,11 @@ abbrev pub run_bits : Run → List (Option ℕ)
 run_bits (Bits first count) = map (λ k. Some (first + k)) (range_with_len 0 count)
 run_bits (Constants count) = map (λ k. None) (range_with_len 0 count)
 
+-- how many bits a run has
+abbrev pub count_of : Run → ℕ
+count_of (Bits first count) = count
+count_of (Constants count) = count
+
 -- a body has no more bits than can be numbered in 32 bits
 abbrev pub HasFewBits : Sources → Body → Type 0
 HasFewBits s body = (bits : List LocalBit) → AreLocalBits s body bits → length bits ≤ 4294967295

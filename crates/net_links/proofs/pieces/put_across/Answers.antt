@@ -1,9 +1,10 @@
 use Rattle.std.proofs.Common.{◌≡◌, ℕ, min, refl, sym, ap, ◌∙◌}
 use Rattle.net_links.specs.LocalLinks.{locals}
-use Rattle.net_links.specs.RunLinks.{bits_back, count_of, row_across}
-use Rattle.net_links.proofs.RunLemmas.{run_length}
+use Rattle.net_links.specs.RunLinks.{bits_back, row_across}
 use Rattle.net_links.proofs.SideLemmas.{across_more, fewer_runs, more_fed, more_source}
 use Rattle.net_links.proofs.pieces.put_across.Goals as goal
+use Rattle.net_runs.specs.LocalNumbers.{count_of}
+use Rattle.net_runs.proofs.RunLemmas.{run_length}
 
 pub returns-clause-links : goal.returns-clause-links
 returns-clause-links c few_fed few_source =

@@ -1,7 +1,7 @@
 use Rattle.std.proofs.Common.{◌≡◌, ℕ, ◌≤◌, ◌++◌, List, drop, arith, sym, subst}
 use Rattle.net_runs.specs.declared.runs.Run.{Run}
-use Rattle.net_runs.specs.LocalNumbers.{run_bits}
-use Rattle.net_links.specs.RunLinks.{AreFew, bits_back, count_of}
+use Rattle.net_runs.specs.LocalNumbers.{run_bits, count_of}
+use Rattle.net_links.specs.RunLinks.{AreFew, bits_back}
 use Rattle.net_links.proofs.SideLemmas.{bits_put_back, constants_put_back, none_put_back}
 use Rattle.net_links.proofs.pieces.put_back.Goals as goal
 

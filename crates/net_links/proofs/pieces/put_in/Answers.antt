@@ -1,8 +1,10 @@
 use Rattle.std.proofs.Common.{◌≡◌, ℕ, ◌<◌, ◌++◌, refl, sym, ap, ◌∙◌, subst}
 use Rattle.net_links.specs.LocalLinks.{locals}
-use Rattle.net_links.specs.RunLinks.{count_of, row_in}
-use Rattle.net_links.proofs.RunLemmas.{in_links, in_narrow, run_length}
+use Rattle.net_links.specs.RunLinks.{row_in}
+use Rattle.net_links.proofs.RunLemmas.{in_links, in_narrow}
 use Rattle.net_links.proofs.pieces.put_in.Goals as goal
+use Rattle.net_runs.specs.LocalNumbers.{count_of}
+use Rattle.net_runs.proofs.RunLemmas.{run_length}
 
 pub returns : goal.returns
 returns c = λ few fits.

@@ -1,8 +1,9 @@
 use Rattle.std.proofs.Common.{arith, ◌∙◌}
 use Rattle.pw_defs.specs.declared.cells.Dir.TheVariants.{Input}
 use Rattle.net_links.specs.LocalLinks.{locals}
-use Rattle.net_links.proofs.RunLemmas.{not_cut, put_more, run_length}
+use Rattle.net_links.proofs.RunLemmas.{not_cut, put_more}
 use Rattle.net_links.proofs.pieces.put_inputs.Goals as goal
+use Rattle.net_runs.proofs.RunLemmas.{run_length}
 
 pub loop-run-preserved : goal.loop-run-preserved
 loop-run-preserved c few fits =

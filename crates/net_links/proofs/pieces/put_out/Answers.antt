@@ -1,9 +1,9 @@
 use Rattle.std.proofs.Common.{◌≡◌, ◌+◌, ◌≤◌, ◌++◌, append-nil, refl, sym, ap, ◌∙◌, subst}
 use Rattle.pw_defs.specs.declared.cells.Dir.TheVariants.{Output}
 use Rattle.net_runs.specs.declared.runs.Run.{Run}
-use Rattle.net_runs.specs.LocalNumbers.{run_bits}
+use Rattle.net_runs.specs.LocalNumbers.{run_bits, count_of}
 use Rattle.net_links.specs.LocalLinks.{locals}
-use Rattle.net_links.specs.RunLinks.{AreFew, count_of, locals_of_port, row_out}
+use Rattle.net_links.specs.RunLinks.{AreFew, locals_of_port, row_out}
 use Rattle.net_links.proofs.RunLemmas.{out_links, out_narrow, out_none}
 use Rattle.net_links.proofs.pieces.put_out.Goals as goal
 

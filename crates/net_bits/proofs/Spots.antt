@@ -91,7 +91,8 @@ module _ (s : Sources) (p : Placed) (there : ArePlaced s p) where
       let whole_ways : take (length rows) ways ≡ ways = take_all (length rows) ways (omega (arith, there.instances.count)) in
       let lengths : sum_by bits_of_way (take (length ways) ways) ≡ sum_by (λ (w : Way). length (spots_of nets_at w)) (take (length ways) ways) =
       sums_alike bits_of_way (λ (w : Way). length (spots_of nets_at w)) ways ways refl
-      (λ i v w at_v at_w. sym (local_length (nets_at v)) ∙ sym (length-map (local_bits (nets_at v)) (spot_of v)) ∙ ap (λ (u : Way). length (spots_of nets_at u)) (same_Some v w (sym at_v ∙ at_w))) (length ways) in
+      (λ i v w at_v at_w. sym (local_length (nets_at v)) ∙ sym (length-map (local_bits (nets_at v)) (spot_of v))
+      ∙ ap (λ (u : Way). length (spots_of nets_at u)) (same_Some v w (sym at_v ∙ at_w))) (length ways) in
       let all_ways : take (length ways) ways ≡ ways = take_all (length ways) ways (omega arith) in
       sym whole_rows ∙ sums_are (length rows) ∙ ap (sum_by bits_of_way) (whole_ways ∙ sym all_ways) ∙ lengths
       ∙ ap (sum_by (λ (w : Way). length (spots_of nets_at w))) all_ways ∙ sym (length-flat_map (spots_of nets_at) ways)
@@ -108,7 +109,8 @@ module _ (s : Sources) (p : Placed) (there : ArePlaced s p) where
       → slice_get (local_bits (nets_at way)) (net.first + place) ≡ Some (name_at (names_in symbols s b) net.name, place)
   net_bit_there way b i net place is at within =
       let nets = map (net_by (names_in symbols s b)) (rows_at p.plans.now b) in
-      let at_net : slice_get nets i ≡ Some (net_by (names_in symbols s b) net) = slice_get-map (net_by (names_in symbols s b)) (rows_at p.plans.now b) i ∙ ap (option_map (net_by (names_in symbols s b))) at in
+      let at_net : slice_get nets i ≡ Some (net_by (names_in symbols s b) net) =
+      slice_get-map (net_by (names_in symbols s b)) (rows_at p.plans.now b) i ∙ ap (option_map (net_by (names_in symbols s b))) at in
       let first : net.first ≡ first_bit nets i =
       sym (ap (λ (r : NetRow). r.first) (get_or_from_slice_get (rows_at p.plans.now b) i net net at))
       ∙ (plan_at way b is).firsts i net (slice_get_within (rows_at p.plans.now b) i net at) in
@@ -159,7 +161,9 @@ module _ (s : Sources) (p : Placed) (there : ArePlaced s p) where
       low = last.before
 
       high : bit < row.first_bit + own_bits there.bits row
-      high = ends_behind (λ (r : InstanceRow). r.first_bit) (own_bits there.bits) rows there.instances.first_bits bit (omega (arith, slice_get_within (all_spots nets_at ways) bit x same, total)) owner row last
+      high =
+          ends_behind (λ (r : InstanceRow). r.first_bit) (own_bits there.bits) rows there.instances.first_bits bit
+          (omega (arith, slice_get_within (all_spots nets_at ways) bit x same, total)) owner row last
 
       few : bit - row.first_bit < bits_in (rows_at p.plans.now row.body)
       few = omega (arith, low, high, own_counted owner row way last.there at_way)

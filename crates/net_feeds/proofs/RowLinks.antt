@@ -63,7 +63,8 @@ rows_more made inst rows i d within old now is =
 -- the links of one instance more
 pub before_more : (links : List (List LinkRow)) (made : Instances) (count : ℕ) → links_before links made (count + 1) ≡ links_before links made count ++ links_at links made count
 before_more links made count =
-    let numbers : range_with_len 0 (count + 1) ≡ range_with_len 0 count ++ count ∷ [] = range_more 0 count ∙ ap (λ (k : ℕ). range_with_len 0 count ++ k ∷ []) {x = 0 + count} {y = count} (omega arith) in
+    let numbers : range_with_len 0 (count + 1) ≡ range_with_len 0 count ++ count ∷ [] =
+    range_more 0 count ∙ ap (λ (k : ℕ). range_with_len 0 count ++ k ∷ []) {x = 0 + count} {y = count} (omega arith) in
     ap (flat_map (links_at links made)) numbers ∙ flat_map-append (links_at links made) (range_with_len 0 count) (count ∷ [])
     ∙ ap (λ rest. links_before links made count ++ rest) (append-nil (links_at links made count))
   where

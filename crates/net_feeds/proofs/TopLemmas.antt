@@ -96,7 +96,11 @@ module _ (s : Sources) (p : Placed) (there : ArePlaced s p) (read : AreReadSourc
       by (name ∷ outer) e =
           let above = at_outer s name outer b (ap (body_at s) (sym e) ∙ first_body) in
           let place = place_of_member outer there.instances.ways (there.instances.all_ways.all outer (above.0, above.1)) in
-          absurd (omega (arith, lower_place way_cmp way_total there.instances.ways there.instances.all_ways.rising place.0 0 outer (name ∷ outer) place.1 (at_first ∙ ap Some e) (outer_before name outer)))
+          absurd (omega (
+            arith,
+            lower_place way_cmp way_total there.instances.ways there.instances.all_ways.rising place.0 0 outer (name ∷ outer) place.1
+                (at_first ∙ ap Some e) (outer_before name outer),
+          ))
 
   at_top : slice_get there.instances.ways 0 ≡ Some []
   at_top = at_first ∙ ap Some is_top

@@ -27,7 +27,10 @@ also_none P marks never = record { same = refl; marked = λ bit within. (λ is. 
 -- what is the same is marked the same
 pub also_alike : (P Q : ℕ → Type 0) (old new : List Bool) → AreMarkedAlso P old new → ((bit : ℕ) → bit < length old → P bit → Q bit) → ((bit : ℕ) → bit < length old → Q bit → P bit)
     → AreMarkedAlso Q old new
-also_alike P Q old new are to back = record { same = are.same; marked = λ bit within. (λ is. one bit within ((are.marked bit within).0 is), λ either. (are.marked bit within).1 (other bit within either)) }
+also_alike P Q old new are to back = record {
+  same = are.same;
+  marked = λ bit within. (λ is. one bit within ((are.marked bit within).0 is), λ either. (are.marked bit within).1 (other bit within either));
+}
   where
     one : (bit : ℕ) → bit < length old → IsMarked old bit ⊎ P bit → IsMarked old bit ⊎ Q bit
     one bit within (inl is) = inl is

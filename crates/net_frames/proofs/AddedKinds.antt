@@ -62,7 +62,8 @@ module _ (n : Netlist) (p : Plans) where
     names = has.names;
     places = has.places;
     kinds = kind ∷ [];
-    grown = added ∙ ap (λ r. with_kind r kind) has.grown ∙ ap (λ (kinds : List KindRow). record a { names = a.names ++ has.names; places = a.places ++ has.places; kinds = kinds ++ kind ∷ [] }) (append-nil a.kinds);
+    grown = added ∙ ap (λ r. with_kind r kind) has.grown
+        ∙ ap (λ (kinds : List KindRow). record a { names = a.names ++ has.names; places = a.places ++ has.places; kinds = kinds ++ kind ∷ [] }) (append-nil a.kinds);
     kept = λ are.
         let more : AreKinds n p b = subst (AreKinds n p) (sym has.grown) (kinds_kept a has.names has.places rows are) in
         subst (AreKinds n p) (sym added) (kinds_more b kind more (of_kind are));

@@ -25,7 +25,8 @@ use Rattle.design_rows.specs.declared.tables.Feed.{Feed}
 use Rattle.design_rows.specs.declared.tables.PlaceRow.{PlaceRow}
 use Rattle.design_rows.specs.declared.tables.Rows.{Rows}
 use Rattle.design_rows.specs.Children.{HasNames}
-use Rattle.design_rows.specs.View.{bit_at, design_of, driver_in, feed_at, feeder_in, inst_at, instance_at, kind_of, name_at, no_feed, owner_at, parent_in, path_at, place_at, place_name, place_of_bit, port_in}
+use Rattle.design_rows.specs.View.{bit_at, design_of, driver_in, feed_at, feeder_in, inst_at, instance_at, kind_of, name_at}
+use Rattle.design_rows.specs.View.{no_feed, owner_at, parent_in, path_at, place_at, place_name, place_of_bit, port_in}
 use Rattle.design_rows.proofs.Owners.{owner_owns}
 use Rattle.design_rows.proofs.RowLemmas.{bit_get, instance_get, length_bits, length_instances}
 use Rattle.module_rows.specs.declared.plain.Netlist.{Netlist}

@@ -1,5 +1,6 @@
 -- Where the instances and the bits of rows stand in a hierarchy.
-use Rattle.std.proofs.Common.{◌≡◌, ℕ, zero, suc, ◌+◌, ◌<◌, ◌≤◌, ◌⊎◌, inl, inr, List, [], ◌∷◌, ◌++◌, Option, Some, None, get_or, length, map, option_and_then, option_map, take, refl, sym, ap, ◌∙◌, subst, arith}
+use Rattle.std.proofs.Common.{◌≡◌, ℕ, zero, suc, ◌+◌, ◌<◌, ◌≤◌, ◌⊎◌, inl, inr, List, [], ◌∷◌, ◌++◌, Option}
+use Rattle.std.proofs.Common.{Some, None, get_or, length, map, option_and_then, option_map, take, refl, sym, ap, ◌∙◌, subst, arith}
 use Rattle.std.specs.List.{AllZip, range_with_len, slice_get, slice_range, sum_by}
 use Rattle.std.proofs.lemmas.Bool.{cases_order}
 use Rattle.std.proofs.lemmas.List.{length-map, map-append}
@@ -297,7 +298,8 @@ module _ (s : Sources) (n : Netlist) (p : Plans) (made : Instances) (counts : Co
 
         within : bit.1 < width bit.0.range
         within =
-            let local = (local_bits_are s (body_in r o) (nets way) (nets_are way (body_in r o) (body_is o way is))).each (local_of bit) (IsIn-slice_get (local_bits (nets way)) at (local_of bit) local_there) in
+            let local = (local_bits_are s (body_in r o) (nets way) (nets_are way (body_in r o) (body_is o way is))).each (local_of bit)
+            (IsIn-slice_get (local_bits (nets way)) at (local_of bit) local_there) in
             let range : local.range ≡ bit.0.range = same_Some local.range bit.0.range (sym local.is_range ∙ (owned s (body_in r o) bit.0.name bit.0 own).0) in
             subst (λ (x : Option (ℕ × ℕ)). bit.1 < width x) range local.within
 

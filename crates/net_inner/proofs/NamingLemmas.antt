@@ -1,5 +1,6 @@
 -- Names that are added to others one list after the other.
-use Rattle.std.proofs.Common.{◌≡◌, ℕ, zero, suc, ◌+◌, ◌-◌, ◌<◌, Bool, true, false, not, List, [], ◌∷◌, ◌++◌, None, Some, get_or, length, map, option_map, slice_get, take, drop, refl, sym, ap, ◌∙◌, subst, arith, append_assoc}
+use Rattle.std.proofs.Common.{◌≡◌, ℕ, zero, suc, ◌+◌, ◌-◌, ◌<◌, Bool, true, false, not, List, [], ◌∷◌, ◌++◌, None}
+use Rattle.std.proofs.Common.{Some, get_or, length, map, option_map, slice_get, take, drop, refl, sym, ap, ◌∙◌, subst, arith, append_assoc}
 use Rattle.std.specs.Prelude.{MatchBool}
 use Rattle.std.specs.List.{list_any, range_with_len}
 use Rattle.std.proofs.lemmas.Grind.{flat_map-append}
@@ -128,7 +129,8 @@ net_taken f nets k n index new at so_far taken =
     ap (λ xs. map f (local_bits xs)) (sym split) ∙ ap (map f) (flat_map-append bits_of_net (take (k + 1) nets) (drop (k + 1) nets))
     ∙ map_append f (local_bits (take (k + 1) nets)) (local_bits (drop (k + 1) nets)) in
     ap (all_differ same_name) (parts ∙ ap (λ x. x ++ map f (local_bits (drop (k + 1) nets))) (next_net f nets k n at)
-    ∙ append_assoc (map f (local_bits (take k nets))) (map f (bits_of_net n)) (map f (local_bits (drop (k + 1) nets))) ∙ ap (λ x. x ++ (map f (bits_of_net n) ++ map f (local_bits (drop (k + 1) nets)))) (sym so_far))
+    ∙ append_assoc (map f (local_bits (take k nets))) (map f (bits_of_net n)) (map f (local_bits (drop (k + 1) nets)))
+    ∙ ap (λ x. x ++ (map f (bits_of_net n) ++ map f (local_bits (drop (k + 1) nets)))) (sym so_far))
     ∙ taken (map f (local_bits (drop (k + 1) nets)))
 
 -- each row is that of a net

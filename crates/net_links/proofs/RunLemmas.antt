@@ -130,7 +130,8 @@ in_links inst line bit run =
 
 pub out_links : (inst line bit first count : ℕ) → links_of_row (row_out inst line bit first count) ≡ locals_of_port Output inst line bit (run_bits (Bits first count))
 out_links inst line bit first count =
-    sym (numbered_if (local_out inst line) (λ k. Some (first + k)) (λ k. record { fed = end_after (Own first) k; source = end_after (Child inst bit) k; line = line }) bit (λ k. refl) 0 bit count (omega arith))
+    sym (numbered_if (local_out inst line) (λ k. Some (first + k)) (λ k. record { fed = end_after (Own first) k; source = end_after (Child inst bit) k; line = line }) bit (λ k. refl)
+    0 bit count (omega arith))
 
 pub out_none : (inst line bit count : ℕ) → locals_of_port Output inst line bit (run_bits (Constants count)) ≡ []
 out_none inst line bit count = numbered_none (local_out inst line) (λ k. None) (λ e k. refl) 0 bit count

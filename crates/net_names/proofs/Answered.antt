@@ -122,7 +122,8 @@ module _ (s : Sources) (n : Netlist) (bits : Counts) (made : Instances) (are : A
   none_answered none g is same =
       let again = met_again g (twice_fault s g is (sym same)) in
       let P : Option NameAt → Type 0 = λ o.
-      MatchOption o ((at : NameAt) → IsTwice s are.ways (IsBelow are.ways (length made.rows) 0 0) at → ⊥) (λ at. IsLeast name_at_cmp (IsTwice s are.ways (IsBelow are.ways (length made.rows) 0 0)) at) in
+      MatchOption o ((at : NameAt) → IsTwice s are.ways (IsBelow are.ways (length made.rows) 0 0) at → ⊥)
+      (λ at. IsLeast name_at_cmp (IsTwice s are.ways (IsBelow are.ways (length made.rows) 0 0)) at) in
       subst P none h.first _ again.is
 
   -- THE ORDER of faults and of names at places
@@ -161,7 +162,8 @@ module _ (s : Sources) (n : Netlist) (bits : Counts) (made : Instances) (are : A
       first : IsLeast name_at_cmp (IsTwice s are.ways (IsBelow are.ways (length made.rows) 0 0)) at
       first =
           let P : Option NameAt → Type 0 = λ o.
-          MatchOption o ((x : NameAt) → IsTwice s are.ways (IsBelow are.ways (length made.rows) 0 0) x → ⊥) (λ x. IsLeast name_at_cmp (IsTwice s are.ways (IsBelow are.ways (length made.rows) 0 0)) x) in
+          MatchOption o ((x : NameAt) → IsTwice s are.ways (IsBelow are.ways (length made.rows) 0 0) x → ⊥)
+          (λ x. IsLeast name_at_cmp (IsTwice s are.ways (IsBelow are.ways (length made.rows) 0 0)) x) in
           subst P is_first h.first
 
       twice : IsTwice s are.ways (IsBelow are.ways (length made.rows) 0 0) at

@@ -339,7 +339,8 @@ module _ (s : Sources) (apart : AreAllApart s) (named : AreNamedInsts s) where
       let tops : right.top ≡ left.top = same_Some right.top left.top (sym right.is_top ∙ left.is_top) in
       let texts : text (onto a.way []) a.last ≡ text (onto b.way []) b.last =
       text_onto a.way [] a.last (named_way s named a.way a.body a.there_is) ∙ sym a.joined_so ∙ b.joined_so ∙ sym (text_onto b.way [] b.last (named_way s named b.way b.body b.there_is)) in
-      let one = one_down (onto a.way []) (onto b.way []) left.top a.body b.body a.part b.part a.last b.last left.leads (subst (λ z. down s z (onto b.way []) ≡ Some b.body) tops right.leads) a.has b.has texts in
+      let one = one_down (onto a.way []) (onto b.way []) left.top a.body b.body a.part b.part a.last b.last left.leads
+      (subst (λ z. down s z (onto b.way []) ≡ Some b.body) tops right.leads) a.has b.has texts in
       let ways : a.way ≡ b.way = one_way a.way b.way one.names in
       a.is ∙ ap (λ w. thing_at w a.part) ways ∙ ap (thing_at b.way) one.parts ∙ sym b.is
 

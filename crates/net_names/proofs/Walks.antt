@@ -220,7 +220,8 @@ module _ (s : Sources) (n : Netlist) (cells : Cells) (models : List Model) (bits
       → paths ++ path way ∷ [] ≡ map path (take (number + 1) are.ways)
   longer_paths number way paths is_way e =
       ap (λ ps. ps ++ path way ∷ []) e ∙ sym (map_push path (take number are.ways) way)
-      ∙ ap (map path) (ap (λ w. take number are.ways ++ w ∷ []) (sym (get_or_from_slice_get are.ways number way [] is_way)) ∙ sym (take_more are.ways number [] (slice_get_within are.ways number way is_way)))
+      ∙ ap (map path) (ap (λ w. take number are.ways ++ w ∷ []) (sym (get_or_from_slice_get are.ways number way [] is_way))
+      ∙ sym (take_more are.ways number [] (slice_get_within are.ways number way is_way)))
 
   next_number : (number : ℕ) (m : Meeting) → HasMet s are.ways (IsBelow are.ways (suc number) 0 0) m → HasMet s are.ways (IsBelow are.ways (number + 1) 0 0) m
   next_number number m h =

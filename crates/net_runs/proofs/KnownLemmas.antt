@@ -127,7 +127,8 @@ module _ (s : Sources) (o : Opened) (m : Module) (is : IsOpen s o m) (known : Li
       row_there : slice_get rows k.net ≡ Some has.row
       row_there = ap (λ (h : ℕ). slice_get (rows_at o.plans (ModuleBody h)) k.net) (sym here) ∙ has.there
 
-      by : (r : Option NetRow) → r ≡ slice_get rows k.net → IfSome r (λ _. bits_in rows ≤ 18446744073709551615) → MatchOption r (own_net s (ModuleBody o.holder) name ≡ None) (IsNetRow s (ModuleBody o.holder) name)
+      by : (r : Option NetRow) → r ≡ slice_get rows k.net → IfSome r (λ _. bits_in rows ≤ 18446744073709551615)
+          → MatchOption r (own_net s (ModuleBody o.holder) name ≡ None) (IsNetRow s (ModuleBody o.holder) name)
       by None e few = let both : None ≡ Some has.row = e ∙ row_there in cc
       by (Some row) e few =
           let same : row ≡ has.row = same_Some row has.row (e ∙ row_there) in

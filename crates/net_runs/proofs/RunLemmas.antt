@@ -1,5 +1,6 @@
 -- Runs are what the names and constants of expressions stand for.
-use Rattle.std.proofs.Common.{◌≡◌, ℕ, zero, suc, ◌+◌, ◌-◌, ◌<◌, ◌≤◌, ◌^◌, inl, Bool, true, false, not, ◌&&◌, cond, List, [], ◌∷◌, ◌++◌, length, get_or, map, drop, append-nil, refl, sym, ap, ◌∙◌, subst, arith}
+use Rattle.std.proofs.Common.{◌≡◌, ℕ, zero, suc, ◌+◌, ◌-◌, ◌<◌, ◌≤◌, ◌^◌, inl, Bool, true, false, not, ◌&&◌, cond}
+use Rattle.std.proofs.Common.{List, [], ◌∷◌, ◌++◌, length, get_or, map, drop, append-nil, refl, sym, ap, ◌∙◌, subst, arith}
 use Rattle.std.specs.Prelude.{Option, Some, None, min, nat_le, is_some, option_map, option_and_then}
 use Rattle.std.specs.Option.{option_or}
 use Rattle.std.specs.List.{AllZip, flat_map, list_any, range_with_len, slice_range}
@@ -20,9 +21,11 @@ use Rattle.list_defs.proofs.Members.{IsIn-flat_map, IsIn-flat_map_from, IsIn-sli
 use Rattle.list_defs.proofs.NameLemmas.{list_any-IsIn}
 use Rattle.design_defs.specs.Bits.{range_in}
 use Rattle.design_defs.specs.Hierarchy.{Sources, module_at, number_named, ports_in}
-use Rattle.design_defs.specs.Places.{Signal, between, declared_range, exprs_in, is_instance_name, misselected, named_if, names_alone, names_in, net_range, or_none, places_from, selected, signals, whole}
+use Rattle.design_defs.specs.Places.{Signal, between, declared_range, exprs_in, is_instance_name, misselected, named_if, names_alone}
+use Rattle.design_defs.specs.Places.{names_in, net_range, or_none, places_from, selected, signals, whole}
 use Rattle.design_defs.specs.Ranges.{place_at, width}
-use Rattle.design_defs.proofs.Expressions.{misselected_bit, misselected_const, misselected_part, misselected_whole, names_alone_whole, names_in_bit, names_in_part, names_in_whole, signals_bit, signals_const, signals_part, signals_whole}
+use Rattle.design_defs.proofs.Expressions.{misselected_bit, misselected_const, misselected_part, misselected_whole, names_alone_whole, names_in_bit}
+use Rattle.design_defs.proofs.Expressions.{names_in_part, names_in_whole, signals_bit, signals_const, signals_part, signals_whole}
 use Rattle.module_rows.specs.declared.plain.Netlist.{Netlist}
 use Rattle.module_rows.specs.Leaves.{leaves, own_leaf}
 use Rattle.module_rows.specs.Reads.{HasLeavesFrom, numbered_expr}
@@ -205,7 +208,8 @@ module _ (s : Sources) (number : ℕ) (m : Module) where
 
   pub part_leaf : (e : Expr) (name : List ℕ) (left right : ℕ) (run : Option Run) → e ≡ PartExpr name left right → IsSelection s number (selected name (declared_range m name) left right) run
       → IsLeafRun s number m e run
-  part_leaf e name left right run is has = subst (λ (x : Expr). IsLeafRun s number m x run) (sym is) (own_run (PartExpr name left right) run (own_part name left right) (select_run name left right run has))
+  part_leaf e name left right run is has =
+      subst (λ (x : Expr). IsLeafRun s number m x run) (sym is) (own_run (PartExpr name left right) run (own_part name left right) (select_run name left right run has))
 
   pub const_leaf : (e : Expr) (count : ℕ) → e ≡ ConstExpr count → IsLeafRun s number m e (Some (Constants count))
   const_leaf e count is = subst (λ (x : Expr). IsLeafRun s number m x (Some (Constants count))) (sym is) (own_run (ConstExpr count) (Some (Constants count)) (own_const count) (const_run count))
@@ -231,7 +235,8 @@ in_use n m k name stands within is =
     let all = numbered_expr n stands.all in
     let row = in_range n.exprs (ConstExpr 0) stands.first k (stands.all + 1) stands.behind (omega (arith, stands.before)) within in
     let own : IsIn (WholeExpr name) (own_leaf e) = subst (IsIn (WholeExpr name)) (sym (ap own_leaf is ∙ own_whole name)) (inl refl) in
-    let leaf : IsIn (WholeExpr name) (leaves all) = subst (IsIn (WholeExpr name)) (sym stands.leaves.same) (IsIn-flat_map own_leaf e (slice_range n.exprs stands.first (stands.all + 1)) (WholeExpr name) row own) in
+    let leaf : IsIn (WholeExpr name) (leaves all) =
+    subst (IsIn (WholeExpr name)) (sym stands.leaves.same) (IsIn-flat_map own_leaf e (slice_range n.exprs stands.first (stands.all + 1)) (WholeExpr name) row own) in
     let alone : IsIn name (names_alone (WholeExpr name)) = subst (IsIn name) (sym (names_alone_whole name)) (inl refl) in
     let used : IsIn name (names_alone all) = subst (IsIn name) (sym (alone_by_leaves all)) (IsIn-flat_map names_alone (WholeExpr name) (leaves all) name leaf alone) in
     IsIn-flat_map names_alone all (exprs_in m) name stands.in_lines used

@@ -69,7 +69,8 @@ finds_also symbols a b c xs ys zs first second joined before known =
 
 -- the first of names, by the symbol of it
 pub finds_first : (symbols : List (List ℕ)) (best result : Option OwnFault) (line symbol : ℕ)
-    → ((x : List ℕ) → slice_get symbols symbol ≡ Some x → Finds symbols best result ((line, x) ∷ [])) → (names : List (List ℕ)) → IsFirstName symbols names (Some symbol) → Finds symbols best result (at_one_line line (first_of names))
+    → ((x : List ℕ) → slice_get symbols symbol ≡ Some x → Finds symbols best result ((line, x) ∷ []))
+    → (names : List (List ℕ)) → IsFirstName symbols names (Some symbol) → Finds symbols best result (at_one_line line (first_of names))
 finds_first symbols best result line symbol one [] is = absurd is
 finds_first symbols best result line symbol one (name ∷ names) is = one name is
 

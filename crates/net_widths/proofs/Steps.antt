@@ -1,9 +1,10 @@
 -- The lines of a module one after the other, and the modules.
-use Rattle.std.proofs.Common.{◌≡◌, ◌≢◌, ℕ, ◌<◌, ◌≤◌, ◌+◌, ◌⊎◌, List, [], ◌∷◌, ◌++◌, get_or, length, take, Option, None, Some, slice_get, inl, inr, refl, sym, ap, ◌∙◌, subst, arith}
+use Rattle.std.proofs.Common.{◌≡◌, ◌≢◌, ℕ, ◌<◌, ◌≤◌, ◌+◌, ◌⊎◌, List, [], ◌∷◌, ◌++◌, get_or, length, map, take, Option, None, Some, slice_get, inl, inr, refl, sym, ap, ◌∙◌, subst, arith}
 use Rattle.std.specs.Option.{option_to_list}
 use Rattle.std.specs.List.{flat_map}
 use Rattle.std.proofs.lemmas.List.{take_all}
 use Rattle.std.proofs.lemmas.Option.{get_or_from_slice_get, same_Some}
+use Rattle.pw_defs.specs.declared.design.Body.{Body}
 use Rattle.pw_defs.specs.declared.netlist.Assign.{Assign}
 use Rattle.pw_defs.specs.declared.netlist.Conn.{Conn}
 use Rattle.pw_defs.specs.declared.netlist.Expr.{Expr}
@@ -17,9 +18,11 @@ use Rattle.design_defs.specs.Hierarchy.{Sources, module_at, type_of}
 use Rattle.design_defs.specs.Links.{port_of_conn}
 use Rattle.design_defs.specs.Places.{exprs_in, misselected, names_in}
 use Rattle.module_rows.specs.declared.plain.Netlist.{Netlist}
-use Rattle.module_rows.specs.Reads.{IsNumbered, numbered_expr}
+use Rattle.module_rows.specs.Reads.{IsNumbered, module_at as module_in, numbered_expr}
+use Rattle.net_hierarchy.specs.Graph.{Types, types_of}
 use Rattle.net_hierarchy.proofs.Places.{same_or_not}
 use Rattle.net_least.specs.declared.own.OwnFault.{OwnFault}
+use Rattle.net_least.proofs.RowItems.{module_there, row_there}
 use Rattle.net_places.specs.declared.plans.Plans.{Plans}
 use Rattle.net_places.specs.Plans.{ArePlans}
 use Rattle.net_places.proofs.Steps.{flat_more}
@@ -126,6 +129,18 @@ firsts_more s refusals symbols holder own new x count is_x first known n m is_mo
         let before : n < holder = omega (arith, below, other) in
         let old = known n m is_module before in
         (old.0, slice_get-append own (new ∷ []) n old.0 old.1, old.2)
+
+-- one module more, whose row has the types of its instances
+pub own_more : (s : Sources) (refusals : Module → List Refusal) (n : Netlist) (types : Types) (holder : ℕ) (row : List (Option Body)) (own pushed : List (Option OwnFault))
+    (new : Option OwnFault) → s.modules ≡ n.modules → types ≡ types_of s → holder < length n.modules → Some row ≡ slice_get types holder → length own ≡ holder → pushed ≡ own ++ new ∷ []
+    → (row ≡ map (λ (i : Inst). type_of s i.kind) (module_in n holder).insts → module_at s holder ≡ Some (module_in n holder) → Finds n.symbols None new (refusals (module_in n holder)))
+    → AreFirstTo s refusals n.symbols holder own → AreFirstTo s refusals n.symbols (holder + 1) pushed
+own_more s refusals n types holder row own pushed new modules types_are within at count is_pushed finds known =
+    let x = module_in n holder in
+    let there = module_there s n.modules holder modules within in
+    let of_row = same_Some row (map (λ (i : Inst). type_of s i.kind) x.insts) (at ∙ row_there s types n.modules holder types_are modules within) in
+    subst (AreFirstTo s refusals n.symbols (holder + 1)) (sym is_pushed)
+    (firsts_more s refusals n.symbols holder own new x count there (first_of_found n.symbols (refusals x) new (finds of_row there)) known)
 
 -- the module that was opened
 pub opened_module : (s : Sources) (o old : Opened) (n : Netlist) (plans : Plans) (holder : ℕ) (m : Module) → o ≡ record old { holder = holder } → old.netlist ≡ n → old.plans ≡ plans

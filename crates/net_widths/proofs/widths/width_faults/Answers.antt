@@ -1,14 +1,11 @@
-use Rattle.std.proofs.Common.{◌≡◌, ◌<◌, ◌+◌, [], ◌∷◌, length, length-append, map, sym, ap, ◌∙◌, subst, arith}
-use Rattle.std.proofs.lemmas.Option.{same_Some, slice_get_within}
-use Rattle.pw_defs.specs.declared.netlist.Inst.{Inst}
-use Rattle.design_defs.specs.Hierarchy.{type_of}
+use Rattle.std.proofs.Common.{◌≡◌, ◌<◌, ◌+◌, [], ◌∷◌, length, length-append, ap, ◌∙◌, arith}
+use Rattle.std.proofs.lemmas.Option.{slice_get_within}
 use Rattle.module_rows.specs.Reads.{module_at}
-use Rattle.net_least.proofs.RowItems.{module_there, row_there}
 use Rattle.net_runs.specs.declared.plain.Opened.{Opened}
 use Rattle.net_widths.specs.Ports.{IsSeen}
 use Rattle.net_widths.specs.Refusals.{widths_of_module}
 use Rattle.net_widths.proofs.FaultLines.{own_widths}
-use Rattle.net_widths.proofs.Steps.{AreFirstTo, first_of_found, firsts_more, opened_module}
+use Rattle.net_widths.proofs.Steps.{opened_module, own_more}
 use Rattle.net_widths.proofs.widths.width_faults.Goals as goal
 
 pub loop-holder-preserved : goal.loop-holder-preserved
@@ -20,16 +17,12 @@ loop-holder-preserved c = record {
       let n = c.args.spellings.now.modules.now in
       let holder = c.loop-holder.holder in
       let within : holder < length n.modules = omega (arith, c.loop-holder-test.true, c.len-holder-end.ensures) in
-      let x = module_at n holder in
-      let row : c.in-Some.row.now ≡ map (λ (i : Inst). type_of s i.kind) x.insts =
-      same_Some c.in-Some.row.now (map (λ (i : Inst). type_of s i.kind) x.insts) (c.in-Some.ensures ∙ row_there s c.args.types.now n.modules holder types seen.is_of.0 within) in
+      own_more s (widths_of_module s) n c.args.types.now holder c.in-Some.row.now c.loop-holder.own.items _ c.in_ok-found-in-Some.found seen.is_of.0 types within c.in-Some.ensures
+      c.loop-holder.invariant.count c.in_ok-push-in-Some.ensures.items (λ row there.
       let opened =
-      opened_module s c.«open».new.self c.loop-holder.lookup n c.args.plans.now holder x c.«open».ensures c.loop-holder.invariant.netlist c.loop-holder.invariant.plans seen.plans_are
-      (module_there s n.modules holder seen.is_of.0 within) in
-      let found = first_of_found n.symbols (widths_of_module s x) c.in_ok-found-in-Some.found (c.in_ok-found-in-Some.ensures s seen opened (c.as_slice.ensures.items ∙ row)) in
-      subst (AreFirstTo s (widths_of_module s) n.symbols (holder + 1)) (sym c.in_ok-push-in-Some.ensures.items)
-      (firsts_more s (widths_of_module s) n.symbols holder c.loop-holder.own.items c.in_ok-found-in-Some.found x c.loop-holder.invariant.count
-      (module_there s n.modules holder seen.is_of.0 within) found (c.loop-holder.invariant.own s seen types));
+      opened_module s c.«open».new.self c.loop-holder.lookup n c.args.plans.now holder (module_at n holder) c.«open».ensures c.loop-holder.invariant.netlist c.loop-holder.invariant.plans
+      seen.plans_are there in
+      c.in_ok-found-in-Some.ensures s seen opened (c.as_slice.ensures.items ∙ row)) (c.loop-holder.invariant.own s seen types);
 }
 
 pub returns : goal.returns

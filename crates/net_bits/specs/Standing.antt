@@ -1,5 +1,5 @@
 -- Where bits stand, by their numbers.
-use Rattle.std.specs.Prelude.{◌≡◌, ℕ, ◌+◌, ◌<◌, ◌≤◌, List, [], ◌∷◌, ◌++◌, Option, Some, None, decimal, slice_get}
+use Rattle.std.specs.Prelude.{◌≡◌, ℕ, ◌+◌, ◌<◌, ◌≤◌, List, [], ◌∷◌, Some, slice_get}
 use Rattle.design_defs.specs.Bits.{Spot, range_in}
 use Rattle.design_defs.specs.Hierarchy.{Sources, Way, body_at}
 use Rattle.net_places.specs.Plans.{names_in}

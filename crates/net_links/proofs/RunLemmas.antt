@@ -13,6 +13,7 @@ use Rattle.net_runs.specs.declared.runs.Run.{Run}
 use Rattle.net_runs.specs.declared.runs.Run.TheVariants.{Bits, Constants}
 use Rattle.net_runs.specs.Leaves.{runs_bits}
 use Rattle.net_runs.specs.LocalNumbers.{run_bits, count_of}
+use Rattle.net_runs.proofs.RunLemmas.{run_length}
 use Rattle.net_links.specs.declared.rows.LinkEnd.TheVariants.{Own, Child}
 use Rattle.net_links.specs.LocalLinks.{LocalLink, end_after, links_of_row}
 use Rattle.net_links.specs.RunLinks.{AreFew, AreFewOwn, IsFewBit, IsNarrow, IsNarrowEnd, end_of_run, local_in, local_out, locals_of_port, own_end, row_in, row_out}

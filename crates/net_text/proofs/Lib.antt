@@ -7,8 +7,11 @@ pub mod WorkedTokens
 pub mod WorkedJobs
 pub mod RunLaws
 pub mod PieceLaws
-pub mod WordLaws
+pub mod ByteLaws
 pub mod StreamLaws
+pub mod DirectLaws
+pub mod StepLaws
+pub mod WordLaws
 pub mod SizeLaws
 pub mod ListLaws
 pub mod NestedLaws

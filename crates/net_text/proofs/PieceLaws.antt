@@ -29,7 +29,7 @@ within_both text behind size more back fits rest =
     let l : length behind ≡ length text - size = ap length back ∙ length-drop size text in
     omega arith
 
-take_again : (n : ℕ) (text : List ℕ) → take (length (take n text)) text ≡ take n text
+pub take_again : (n : ℕ) (text : List ℕ) → take (length (take n text)) text ≡ take n text
 take_again zero text = refl
 take_again (suc n) [] = refl
 take_again (suc n) (x ∷ text) = ap (λ t. x ∷ t) (take_again n text)

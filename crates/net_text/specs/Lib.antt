@@ -7,6 +7,7 @@ pub mod NetlistFaults
 pub mod Worked
 pub mod Runs
 pub mod PieceViews
+pub mod DirectWords
 pub mod TokenViews
 pub mod Streams
 pub mod Sizes

@@ -2,6 +2,7 @@
 ghost use Rattle.std.specs.Prelude.{◌≡◌};
 ghost use Rattle.std.specs.List.{list_any};
 ghost use Rattle.list_defs.specs.Members.{same_name};
+ghost use Rattle.net_text.specs.DirectWords.{begins_small};
 ghost use Rattle.net_text.specs.NetlistTokens.{word_class, mark_class, digits_class, left_out_words};
 ghost use Rattle.net_text.specs.TokenViews.{class_view};
 
@@ -97,9 +98,30 @@ fn is_left_out(word: &[u8]) -> bool
     }
 }
 
+/// Whether a word begins with two small letters, as each reserved word does.
+fn begins_small(word: &[u8]) -> bool
+    ensures { result ≡ begins_small word.now }
+{
+    match word {
+        [first, second, ..] => first.is_ascii_lowercase() && second.is_ascii_lowercase(),
+        _ => false,
+    }
+}
+
 /// The class of a plain identifier.
-#[tactic(auto, unfolding(crate::specs::NetlistTokens::word_class))]
+#[tactic(auto, using(crate::proofs::WordLaws::not_reserved))]
 pub fn word_class(word: &[u8]) -> NetClass
+    ensures { class_view result ≡ word_class word.now }
+{
+    if !begins_small(word) {
+        return NetClass::Name;
+    }
+    small_word_class(word)
+}
+
+/// The class of a plain identifier that may be a reserved word.
+#[tactic(auto, unfolding(crate::specs::NetlistTokens::word_class))]
+fn small_word_class(word: &[u8]) -> NetClass
     ensures { class_view result ≡ word_class word.now }
 {
     if word == b"module".as_slice() {

@@ -4,6 +4,7 @@
 
 mod classes;
 mod declarations;
+mod direct;
 mod exprs;
 mod faults;
 mod headers;
@@ -12,6 +13,7 @@ mod lists;
 mod phrases;
 mod pieces;
 mod runs;
+mod steps;
 mod tokens;
 mod words;
 

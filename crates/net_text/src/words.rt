@@ -1,4 +1,5 @@
-//! The token that stands behind a place in a netlist's text.
+//! The token that stands behind a place in a netlist's text. White space and the tokens that stand most are gone over
+//! without their pieces.
 ghost use Rattle.std.specs.Prelude.{◌≡◌, ◌<◌, ◌++◌, length, codes};
 ghost use Rattle.text_defs.specs.Lines.{last_line};
 ghost use Rattle.text_streams.specs.Places.{IsAt};
@@ -8,7 +9,9 @@ ghost use Rattle.net_text.specs.Sizes.{IsNextMeasured};
 ghost use Rattle.net_text.specs.Streams.{tokens_behind, ahead, word_view, IsMarkOf, EndsAt};
 
 use crate::classes::{NetClass, digits_class, mark_class, word_class};
+use crate::direct::direct_word;
 use crate::pieces::{NetPiece, netlist_piece};
+use crate::steps::{behind_graphic, behind_white};
 use text_streams::{Place, front, last_line};
 
 /// A token: its class, its text and its line.
@@ -66,8 +69,8 @@ fn word_of<'a>(what: NetPiece<'a>, line: u32, first: &'a [u8], text: &'a [u8]) -
     }
 }
 
-/// The token at a place, if one begins there, and the place behind the piece.
-fn word_at<'a>(place: Place<'a>) -> (Option<Word<'a>>, Place<'a>)
+/// The token of the piece at a place, if it is one, and the place behind the piece.
+fn piece_word<'a>(place: Place<'a>) -> (Option<Word<'a>>, Place<'a>)
     requires at { IsAt place }
     requires some { place.at < length place.text.now }
     ensures at { IsAt result.1 }
@@ -83,6 +86,22 @@ fn word_at<'a>(place: Place<'a>) -> (Option<Word<'a>>, Place<'a>)
     (word, place.moved(size))
 }
 
+/// The token at a place, if one begins there, and the place behind it or behind what is skipped.
+fn word_at<'a>(place: Place<'a>) -> (Option<Word<'a>>, Place<'a>)
+    requires at { IsAt place }
+    requires some { place.at < length place.text.now }
+    ensures at { IsAt result.1 }
+    ensures text { result.1.text.now ≡ place.entry.text.now }
+    ensures place { place.entry.at < result.1.at }
+    ensures measured { IsNextMeasured (ahead result.0) }
+    ensures tokens { tokens_behind place.entry ≡ ahead result.0 ++ tokens_behind result.1 }
+{
+    match direct_word(place.rest(), place.line) {
+        None => piece_word(place),
+        Some(word) => (Some(word), behind_graphic(place, word.text.len())),
+    }
+}
+
 /// The next token, if there is one, and the place behind it.
 #[tactic(auto, using(crate::proofs::StreamLaws::none_behind))]
 pub fn next_word<'a>(place: Place<'a>) -> (Option<Word<'a>>, Place<'a>)
@@ -92,13 +111,13 @@ pub fn next_word<'a>(place: Place<'a>) -> (Option<Word<'a>>, Place<'a>)
     ensures none { EndsAt result.0 (tokens_behind result.1) }
     ensures measured { IsNextMeasured (ahead result.0) }
 {
-    let mut place = place;
+    let mut place = behind_white(place);
     while place.at < place.text.len() {
         let (word, behind) = word_at(place);
-        place = behind;
         if word.is_some() {
-            return (word, place);
+            return (word, behind);
         }
+        place = behind_white(behind);
     }
     (None, place)
 }

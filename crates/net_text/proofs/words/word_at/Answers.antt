@@ -1,21 +1,22 @@
-use Rattle.std.proofs.Common.{ap, ◌∙◌, min, length, ℕ}
-use Rattle.text_defs.specs.Pieces.{Piece}
-use Rattle.net_text.specs.NetlistTokens.{NetlistPiece}
-use Rattle.net_text.specs.PieceViews.{piece_view}
-use Rattle.net_text.proofs.StreamLaws.{mark_front, word_step, some_behind}
-use Rattle.net_text.proofs.SizeLaws.{measured_piece}
+use Rattle.std.proofs.Common.{refl}
+use Rattle.net_text.proofs.DirectLaws.{direct_graphic, direct_step, direct_within, measured_direct}
 use Rattle.net_text.proofs.words.word_at.Goals as goal
 
-pub word_of-word-requires : goal.word_of-word-requires
-word_of-word-requires c =
-    mark_front c.args.place.fresh c.rest-rest.result.now _ _ (some_behind _ _ _ c.requires.some c.rest-rest.ensures)
-    (ap (λ (p : Piece NetlistPiece). p.what) c.netlist_piece-piece.ensures) c.front.ensures
+pub behind_graphic-requires-clause-size : goal.behind_graphic-requires-clause-size
+behind_graphic-requires-clause-size c =
+    direct_within c.args.place.text.now c.rest.result.now c.args.place.at _ c.args.place.line _ c.requires.some c.rest.ensures c.in-Some.ensures refl
 
-pub returns-clause-tokens : goal.returns-clause-tokens
-returns-clause-tokens c =
-    word_step _ _ _ _ _ _ _ _ _ (piece_view c.netlist_piece-piece.result) _ c.requires.some c.rest-rest.ensures c.requires.at.line c.netlist_piece-piece.ensures
-    (c.min-size.ensures ∙ ap (λ (n : ℕ). min n (length c.rest-rest.result.now)) c.max.ensures) c.word_of-word.ensures c.moved.ensures.text c.moved.ensures.place c.moved.ensures.fresh
+pub behind_graphic-requires-clause-some : goal.behind_graphic-requires-clause-some
+behind_graphic-requires-clause-some c = c.in-Some.ensures.some
 
-pub returns-clause-measured : goal.returns-clause-measured
-returns-clause-measured c =
-    measured_piece _ _ _ c.args.place.fresh c.rest-rest.result.now _ c.word_of-word.ensures (ap (λ (p : Piece NetlistPiece). p.what) c.netlist_piece-piece.ensures)
+pub behind_graphic-requires-clause-graphic : goal.behind_graphic-requires-clause-graphic
+behind_graphic-requires-clause-graphic c =
+    direct_graphic c.args.place.text.now c.rest.result.now c.args.place.at _ c.args.place.line _ c.rest.ensures c.in-Some.ensures refl
+
+pub returns-in-Some-clause-measured : goal.returns-in-Some-clause-measured
+returns-in-Some-clause-measured c = measured_direct c.rest.result.now c.args.place.line _ c.in-Some.ensures
+
+pub returns-in-Some-clause-tokens : goal.returns-in-Some-clause-tokens
+returns-in-Some-clause-tokens c =
+    direct_step c.args.place.text.now c.rest.result.now _ c.args.place.at _ _ c.args.place.line c.args.place.fresh _ _ c.requires.some c.rest.ensures c.requires.at.line
+    c.in-Some.ensures refl c.behind_graphic.ensures.text c.behind_graphic.ensures.place c.behind_graphic.ensures.fresh

@@ -1,5 +1,6 @@
 -- What is fed and feeds something is a bit that there is.
-use Rattle.std.proofs.Common.{◌≡◌, ℕ, ◌⊎◌, inl, inr, Bool, true, false, List, [], ◌∷◌, ◌++◌, Option, None, Some, map, option_map, option_and_then, slice_get, refl, sym, ap, ◌∙◌, subst, arith}
+use Rattle.std.proofs.Common.{◌≡◌, ℕ, ◌⊎◌, inl, inr, Bool, true, false, List, [], ◌∷◌, ◌++◌}
+use Rattle.std.proofs.Common.{Option, None, Some, map, option_map, option_and_then, slice_get, refl, sym, ap, ◌∙◌, subst, arith}
 use Rattle.std.specs.List.{slice_index_or}
 use Rattle.std.specs.Option.{IsSomeAnd, MatchOption}
 use Rattle.std.proofs.lemmas.Slice.Zip.{AllZip-left}
@@ -47,7 +48,8 @@ pin_there : (name : List ℕ) (pins : List Pin) → (pin : Pin) → IsIn pin pin
 pin_there name [] pin there same = absurd there
 pin_there name (first ∷ pins) pin there same = by (λ later. pin_there name pins pin later same) (same_name name first.name) refl there
   where
-    by : (IsIn pin pins → (port : Port) × (port_named name (map port_of_pin pins) ≡ Some port) × (port.range ≡ None)) → (yes : Bool) → same_name name first.name ≡ yes → (pin ≡ first) ⊎ IsIn pin pins → (port : Port) × (port_named name (map port_of_pin (first ∷ pins)) ≡ Some port) × (port.range ≡ None)
+    by : (IsIn pin pins → (port : Port) × (port_named name (map port_of_pin pins) ≡ Some port) × (port.range ≡ None)) → (yes : Bool)
+        → same_name name first.name ≡ yes → (pin ≡ first) ⊎ IsIn pin pins → (port : Port) × (port_named name (map port_of_pin (first ∷ pins)) ≡ Some port) × (port.range ≡ None)
     by rest true e at = (port_of_pin first, rw e refl, refl)
     by rest false e (inl is) = let never : true ≡ false = sym (same_name-itself name) ∙ ap (same_name name) (same ∙ ap (λ (q : Pin). q.name) is) ∙ e in cc
     by rest false e (inr later) = let found = rest later in (found.0, rw e found.1, found.2)

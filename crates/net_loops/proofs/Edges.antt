@@ -1,5 +1,6 @@
 -- What feeds bits by their numbers is what feeds them in the hierarchy.
-use Rattle.std.proofs.Common.{◌≡◌, ℕ, ◌+◌, ◌-◌, ◌<◌, ◌≤◌, ◌⊎◌, inl, inr, List, [], ◌∷◌, ◌++◌, Option, None, Some, get_or, length, option_map, option_and_then, slice_get, refl, sym, ap, ◌∙◌, subst, arith}
+use Rattle.std.proofs.Common.{◌≡◌, ℕ, ◌+◌, ◌-◌, ◌<◌, ◌≤◌, ◌⊎◌, inl, inr, List, [], ◌∷◌, ◌++◌}
+use Rattle.std.proofs.Common.{Option, None, Some, get_or, length, option_map, option_and_then, slice_get, refl, sym, ap, ◌∙◌, subst, arith}
 use Rattle.std.specs.List.{AllZip}
 use Rattle.std.specs.Option.{IsSomeAnd, MatchOption, option_to_list}
 use Rattle.std.proofs.lemmas.Bool.{cases_lt}
@@ -125,7 +126,8 @@ module _ (s : Sources) (p : Placed) (there : ArePlaced s p) (read : AreReadSourc
 
   -- EDGES
   pub edge_of : (n m : ℕ) → IsFedBy graph n m → (x y : Spot) × (slice_get spots n ≡ Some x) × (slice_get spots m ≡ Some y) × Feeds s x y
-  edge_of n m step = elim (IsIn-append_cases m links insides (subst (IsIn m) row.graph_row.is step)) [ inl link ↦ of_link row.feed row.fed_so (linked link) | inr inside ↦ of_inside (in_option m _ inside) ]
+  edge_of n m step =
+      elim (IsIn-append_cases m links insides (subst (IsIn m) row.graph_row.is step)) [ inl link ↦ of_link row.feed row.fed_so (linked link) | inr inside ↦ of_inside (in_option m _ inside) ]
     where
       x : Spot
       x = (bit_of n m step).0

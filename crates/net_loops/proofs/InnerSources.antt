@@ -1,5 +1,6 @@
 -- What the tables of cells and models say of the bits of instances.
-use Rattle.std.proofs.Common.{◌≡◌, ℕ, ◌+◌, ◌-◌, ◌<◌, ◌≤◌, ◌⊎◌, inl, inr, List, [], ◌∷◌, ◌++◌, Option, None, Some, get_or, length, option_map, option_and_then, slice_get, refl, sym, ap, ◌∙◌, subst, arith}
+use Rattle.std.proofs.Common.{◌≡◌, ℕ, ◌+◌, ◌-◌, ◌<◌, ◌≤◌, ◌⊎◌, inl, inr, List, [], ◌∷◌, ◌++◌}
+use Rattle.std.proofs.Common.{Option, None, Some, get_or, length, option_map, option_and_then, slice_get, refl, sym, ap, ◌∙◌, subst, arith}
 use Rattle.std.specs.List.{AllZip}
 use Rattle.std.specs.Option.{IsSomeAnd, MatchOption, option_to_list}
 use Rattle.std.proofs.lemmas.Bool.{cases_lt}
@@ -100,7 +101,8 @@ module _ (s : Sources) (p : Placed) (there : ArePlaced s p) (read : AreReadSourc
       count = local_length (nets_of s p there (Some row.body)) ∙ sym (ap (λ o. bit_count (nets_of s p there o)) body) ∙ counted_at s p there x.way row.body body
 
   -- WHAT the table of a cell or model says of a bit
-  module _ (n : ℕ) (x : Spot) (at_x : slice_get spots n ≡ Some x) (owner : ℕ) (row : InstanceRow) (at_row : slice_get rows owner ≡ Some row) (own : IsOwner s p there n x owner row) (leaf : IsLeaf row.body) where
+  module _ (n : ℕ) (x : Spot) (at_x : slice_get spots n ≡ Some x) (owner : ℕ) (row : InstanceRow) (at_row : slice_get rows owner ≡ Some row)
+      (own : IsOwner s p there n x owner row) (leaf : IsLeaf row.body) where
     differ : AreSources (names_of_bits s p row.body) (pairs_of s row.body) (source_in inner row.body)
     differ = sources owner row at_row (names_differ s p there early x.way row.body leaf own.body)
 

@@ -1,5 +1,6 @@
 -- What feeds bits inside instances, by the numbers of bits.
-use Rattle.std.proofs.Common.{◌≡◌, ℕ, ◌+◌, ◌-◌, ◌<◌, ◌≤◌, ◌⊎◌, inl, inr, Bool, true, false, List, [], ◌∷◌, Option, None, Some, map, option_map, option_and_then, slice_get, refl, sym, ap, ◌∙◌, subst, arith}
+use Rattle.std.proofs.Common.{◌≡◌, ℕ, ◌+◌, ◌-◌, ◌<◌, ◌≤◌, ◌⊎◌, inl, inr, Bool, true, false, List, []}
+use Rattle.std.proofs.Common.{◌∷◌, Option, None, Some, map, option_map, option_and_then, slice_get, refl, sym, ap, ◌∙◌, subst, arith}
 use Rattle.std.specs.List.{find, flat_map}
 use Rattle.std.proofs.lemmas.Option.{none-some, same_Some, slice_get-get_or, slice_get-map, slice_get_within}
 use Rattle.pw_defs.specs.declared.cells.Cell.{Cell}
@@ -101,7 +102,8 @@ find_pin : (net : List ℕ) (pins : List Pin) → port_named net (map port_of_pi
 find_pin net [] = refl
 find_pin net (pin ∷ pins) = by (find_pin net pins) (same_name net pin.name) refl
   where
-    by : port_named net (map port_of_pin pins) ≡ option_map port_of_pin (find (λ (q : Pin). same_name net q.name) pins) → (yes : Bool) → same_name net pin.name ≡ yes → port_named net (map port_of_pin (pin ∷ pins)) ≡ option_map port_of_pin (find (λ (q : Pin). same_name net q.name) (pin ∷ pins))
+    by : port_named net (map port_of_pin pins) ≡ option_map port_of_pin (find (λ (q : Pin). same_name net q.name) pins) → (yes : Bool) → same_name net pin.name ≡ yes
+        → port_named net (map port_of_pin (pin ∷ pins)) ≡ option_map port_of_pin (find (λ (q : Pin). same_name net q.name) (pin ∷ pins))
     by rest true e = rw e refl
     by rest false e = rw e rest
 

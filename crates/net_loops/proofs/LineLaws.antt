@@ -1,5 +1,6 @@
 -- The lines that feed bits by numbers are those of the hierarchy.
-use Rattle.std.proofs.Common.{◌≡◌, ℕ, zero, suc, ◌+◌, ◌-◌, ◌<◌, ◌≤◌, ◌⊎◌, inl, inr, List, [], ◌∷◌, ◌++◌, Option, None, Some, get_or, length, map, option_map, option_and_then, slice_get, refl, sym, ap, ◌∙◌, subst, arith}
+use Rattle.std.proofs.Common.{◌≡◌, ℕ, zero, suc, ◌+◌, ◌-◌, ◌<◌, ◌≤◌, ◌⊎◌, inl, inr, List, [], ◌∷◌, ◌++◌}
+use Rattle.std.proofs.Common.{Option, None, Some, get_or, length, map, option_map, option_and_then, slice_get, refl, sym, ap, ◌∙◌, subst, arith}
 use Rattle.std.specs.List.{flat_map, range_with_len}
 use Rattle.std.proofs.lemmas.Bool.{cases_lt}
 use Rattle.std.proofs.lemmas.Option.{get_or_from_slice_get, none-some, same_Some, slice_get-get_or, slice_get_within}
@@ -100,7 +101,8 @@ module _ (s : Sources) (p : Placed) (there : ArePlaced s p) (read : AreReadSourc
     body = (there.instances.each inst way row at_way at_row).body
 
     -- links
-    link_line : (line n number : ℕ) (m : Module) → row.body ≡ ModuleBody number → IsOfModule s way number m → IsIn (line, n) (flat_map lines_of_link (links_at links p.instances.now inst)) → IsLineAt inst line n
+    link_line : (line n number : ℕ) (m : Module) → row.body ≡ ModuleBody number → IsOfModule s way number m
+        → IsIn (line, n) (flat_map lines_of_link (links_at links p.instances.now inst)) → IsLineAt inst line n
     link_line line n number m is of_module within = record {
       way = way;
       x = link.fed_spot;
@@ -227,7 +229,8 @@ module _ (s : Sources) (p : Placed) (there : ArePlaced s p) (read : AreReadSourc
             local = ap (slice_get (local_bits (nets_at s p there (i.name ∷ way)))) behind ∙ ap (λ o. slice_get (local_bits (nets_of s p there o)) k) body_child ∙ at_b;
           }
 
-          found : HasSource s p there read early spots all inner sources (child_row.first_bit + k) x at_x (child.number) child_row at_child own (leaf_of_source inner child_row.body k parts.0 parts.3) (parts.0)
+          found : HasSource s p there read early spots all inner sources (child_row.first_bit + k) x at_x (child.number) child_row at_child own
+              (leaf_of_source inner child_row.body k parts.0 parts.3) (parts.0)
           found =
               source_of s p there read early spots all inner sources (child_row.first_bit + k) x at_x child.number child_row at_child own
               (leaf_of_source inner child_row.body k parts.0 parts.3) parts.0 (ap (source_in inner child_row.body) behind ∙ parts.3)
@@ -287,7 +290,8 @@ module _ (s : Sources) (p : Placed) (there : ArePlaced s p) (read : AreReadSourc
       links_of row at b is =
           ap (λ o. links_of_rows p.instances.now inst (rows_of_row links o)) at ∙ ap (λ z. links_of_rows p.instances.now inst (rows_of_body links z)) is
 
-      in_body : (row : InstanceRow) → slice_get rows inst ≡ Some row → (b : Body) → row.body ≡ b → IsIn (line, n) (flat_map lines_of_link (links_at links p.instances.now inst)) ⊎ IsIn (line, n) (lines_of_body p inner inst b)
+      in_body : (row : InstanceRow) → slice_get rows inst ≡ Some row → (b : Body) → row.body ≡ b
+          → IsIn (line, n) (flat_map lines_of_link (links_at links p.instances.now inst)) ⊎ IsIn (line, n) (lines_of_body p inner inst b)
           → IsLineAt inst line n
       in_body row at (ModuleBody number) is found = in_module row at number is found
       in_body row at (CellBody c) is (inl link) = absurd (subst (λ ls. IsIn (line, n) (flat_map lines_of_link ls)) (links_of row at (CellBody c) is) link)
@@ -318,7 +322,8 @@ module _ (s : Sources) (p : Placed) (there : ArePlaced s p) (read : AreReadSourc
       same_way : way inst row at_row ≡ w
       same_way = same_Some (way inst row at_row) w (sym (at_way inst row at_row) ∙ at_w)
 
-      link_there : (m : ℕ) (number : ℕ) (is : IsLinkAt spots (ways s p there) links p.instances.now w number line x (Some y)) → slice_get spots m ≡ Some y → IsIn (line, n) (flat_map lines_of_link (links_at links p.instances.now inst))
+      link_there : (m : ℕ) (number : ℕ) (is : IsLinkAt spots (ways s p there) links p.instances.now w number line x (Some y)) → slice_get spots m ≡ Some y
+          → IsIn (line, n) (flat_map lines_of_link (links_at links p.instances.now inst))
       link_there m number is at_y =
           let insts : is.inst ≡ inst = one_place way_cmp way_total (ways s p there) there.instances.all_ways.rising is.inst inst w is.inst_there at_w in
           let at : slice_get (links_at links p.instances.now inst) number ≡ Some is.at = subst (λ (k : ℕ). slice_get (links_at links p.instances.now k) number ≡ Some is.at) insts is.there in

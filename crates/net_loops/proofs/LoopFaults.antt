@@ -4,9 +4,9 @@ use Rattle.std.specs.Ordering.{nat_cmp, ordering_reverse, ordering_then}
 use Rattle.std.specs.declared.cmp.Ordering.{Ordering}
 use Rattle.std.specs.declared.cmp.Ordering.TheVariants.{Less, Equal, Greater}
 use Rattle.std.proofs.lemmas.Bool.{cases_order}
-use Rattle.std.proofs.lemmas.Cmp.{nat_cmp_total}
+use Rattle.std.proofs.lemmas.Cmp.{tied_itself}
 use Rattle.std.proofs.lemmas.Option.{same_Some, slice_get_within}
-use Rattle.std.specs.Cmp.{IsTotalOrder, nat_cmp_is}
+use Rattle.std.specs.Cmp.{nat_cmp_is}
 use Rattle.pw_defs.specs.declared.design.Body.TheVariants.{Module as ModuleBody}
 use Rattle.pw_defs.specs.declared.faults.AtModule.{AtModule}
 use Rattle.pw_defs.specs.declared.faults.DesignFault.TheVariants.{N10}
@@ -17,7 +17,6 @@ use Rattle.list_defs.specs.Rings.{IsReached}
 use Rattle.list_defs.proofs.Few.{place_of_member}
 use Rattle.list_defs.proofs.Members.{IsIn-slice_get}
 use Rattle.list_defs.proofs.OneList.{one_place}
-use Rattle.list_defs.proofs.Rising.{not_before_itself}
 use Rattle.design_defs.specs.Bits.{HasSpotName, IsSpot, Spot, spot_cmp}
 use Rattle.design_defs.specs.DesignFaults.{Fault, FaultKind, HasFirstFault, IsFault, IsLeastOnRing, answer_of, at_line, fault_cmp, kind_number, place_of_fault, HasNoneBefore}
 use Rattle.design_defs.specs.Hierarchy.{IsOfModule, Sources, Way, body_at, module_at, way_cmp}
@@ -39,15 +38,6 @@ use Rattle.net_loops.specs.declared.lines.Candidate.{Candidate}
 use Rattle.net_loops.proofs.Between.{between, input_of, link_spot, through_spot}
 use Rattle.net_loops.proofs.LineLaws.{IsLineAt, feeds_line, line_feeds}
 use Rattle.design_laws.proofs.OneFeed.{IsGhost, one_feed}
-
--- a thing compared with itself
-itself : {X : Type 0} (cmp : X → X → Ordering) → IsTotalOrder cmp → (x : X) → cmp x x ≡ Equal
-itself cmp total x = by (cmp x x) refl
-  where
-    by : (o : Ordering) → cmp x x ≡ o → cmp x x ≡ Equal
-    by Less e = absurd (not_before_itself cmp total x e)
-    by Equal e = e
-    by Greater e = absurd (not_before_itself cmp total x (total.antisymm x x ∙ ap ordering_reverse e))
 
 -- what a fault of this kind says
 pub record IsLoop (s : Sources) (f : Fault) : Type 0 where
@@ -214,9 +204,11 @@ module _ (s : Sources) (p : Placed) (there : ArePlaced s p) (read : AreReadSourc
 
         behind : inst < at_g.inst → ⊥
         behind before =
-            let later : way_cmp line.way loop.way ≡ Less = rising_places way_cmp there.instances.ways there.instances.all_ways.rising inst at_g.inst line.way loop.way line.at_way at_g.at_way before in
+            let later : way_cmp line.way loop.way ≡ Less =
+            rising_places way_cmp there.instances.ways there.instances.all_ways.rising inst at_g.inst line.way loop.way line.at_way at_g.at_way before in
             let greater : way_cmp loop.way line.way ≡ Greater = way_total.antisymm loop.way line.way ∙ ap ordering_reverse later in
-            let never : Greater ≡ Less = sym (ap (λ o. ordering_then o (ordering_then (nat_cmp loop.number at.«module») (ordering_then (nat_cmp loop.line at.line) (name_cmp loop.name at.name)))) greater) ∙ parts in
+            let never : Greater ≡ Less =
+            sym (ap (λ o. ordering_then o (ordering_then (nat_cmp loop.number at.«module») (ordering_then (nat_cmp loop.line at.line) (name_cmp loop.name at.name)))) greater) ∙ parts in
             cc
 
         on_line : at_g.inst ≡ inst → IsNotBehind c.line c.rank loop.line at_g.mark → ⊥
@@ -237,7 +229,7 @@ module _ (s : Sources) (p : Placed) (there : ArePlaced s p) (read : AreReadSourc
                 ∙ ap (λ o. ordering_then o (ordering_then (nat_cmp loop.line at.line) (name_cmp loop.name at.name))) equal_numbers) ∙ parts
               where
                 equal_ways : way_cmp loop.way line.way ≡ Equal
-                equal_ways = ap (way_cmp loop.way) (sym ways) ∙ itself way_cmp way_total loop.way
+                equal_ways = ap (way_cmp loop.way) (sym ways) ∙ tied_itself way_total loop.way
 
                 equal_numbers : nat_cmp loop.number at.«module» ≡ Equal
                 equal_numbers = sym (nat_cmp_is loop.number at.«module» Equal numbers)

@@ -1,32 +1,24 @@
 -- Marks of bits, and ranks of those that are marked.
-use Rattle.std.proofs.Common.{◌≡◌, ◌≢◌, ℕ, zero, suc, ◌+◌, ◌<◌, ◌⊎◌, inl, inr, Bool, true, false, List, [], ◌∷◌, ◌++◌, Option, None, Some, get_or, length, replicate, set, take, slice_get, refl, sym, ap, ◌∙◌, subst, arith}
+use Rattle.std.proofs.Common.{◌≡◌, ◌≢◌, ℕ, zero, suc, ◌+◌, ◌<◌, ◌⊎◌, inl, inr, Bool, true, false, List, [], ◌∷◌}
+use Rattle.std.proofs.Common.{◌++◌, Option, None, Some, get_or, length, replicate, set, take, slice_get, refl, sym, ap, ◌∙◌, subst, arith}
 use Rattle.std.specs.Option.{option_and_then}
+use Rattle.std.proofs.lemmas.Bool.{cases_eq}
 use Rattle.std.proofs.lemmas.List.{length-set, take_more}
 use Rattle.std.proofs.lemmas.Option.{none-some, same_Some, slice_get_within}
 use Rattle.list_defs.specs.Members.{IsIn}
 use Rattle.list_defs.proofs.Longer.{slice_get-set_other, slice_get-set_same}
 use Rattle.list_defs.proofs.Members.{IsIn-append_cases, IsIn-append_left, IsIn-append_right}
+use Rattle.net_hierarchy.proofs.Places.{get_replicate}
 use Rattle.net_rings.specs.Least.{HasRank}
 use Rattle.net_rings.specs.declared.minima.Ranked.{Ranked}
 use Rattle.net_loops.specs.Least.{AreMarked, AreMarkedRanks, with_rank}
 use Rattle.net_loops.specs.Lines.{mark_at}
 
-same_or_other : (n m : ℕ) → (n ≡ m) ⊎ (n ≢ m)
-same_or_other zero zero = inl refl
-same_or_other zero (suc m) = inr (λ e. absurd (omega (arith, e)))
-same_or_other (suc n) zero = inr (λ e. absurd (omega (arith, e)))
-same_or_other (suc n) (suc m) = elim (same_or_other n m) [ inl same ↦ inl (ap suc same) | inr other ↦ inr (λ e. other (omega (arith, e))) ]
-
-none_at : {X : Type 0} (n k : ℕ) (v x : X) → slice_get (replicate n v) k ≡ Some x → x ≡ v
-none_at zero k v x e = cc
-none_at (suc n) zero v x e = sym (same_Some v x e)
-none_at (suc n) (suc k) v x e = none_at n k v x e
-
 -- no bit is marked
 pub none_marked : (count : ℕ) (marks : List Bool) → marks ≡ replicate count false → length marks ≡ count → AreMarked [] count marks
 none_marked count marks is long = record {
   all = long;
-  only = λ n at. let never : true ≡ false = none_at count n false true (ap (λ ms. slice_get ms n) (sym is) ∙ at) in cc;
+  only = λ n at. let never : true ≡ false = sym (get_replicate count false true n (ap (λ ms. slice_get ms n) (sym is) ∙ at)) in cc;
   each = λ n there. absurd there;
 }
 
@@ -35,8 +27,8 @@ pub marked_more : (bits : List ℕ) (i d count : ℕ) (marks new : List Bool) �
     → AreMarked (take (i + 1) bits) count new
 marked_more bits i d count marks new within grown old = subst (λ bs. AreMarked bs count new) (sym (take_more bits i d within)) (subst (AreMarked (take i bits ++ bit ∷ []) count) (sym grown) (record {
   all = length-set marks bit true ∙ old.all;
-  only = λ n at. only n at (same_or_other n bit);
-  each = λ n there less. each n less (same_or_other n bit) (IsIn-append_cases n (take i bits) (bit ∷ []) there);
+  only = λ n at. only n at (cases_eq n bit);
+  each = λ n there less. each n less (cases_eq n bit) (IsIn-append_cases n (take i bits) (bit ∷ []) there);
 }))
   where
     bit : ℕ
@@ -62,7 +54,7 @@ none_ranked marks ranks is long = record { all = long; only = λ n rank at. absu
       where
         by : (o : Option (Option ℕ)) → slice_get ranks n ≡ o → option_and_then (λ mark. mark) o ≡ Some rank → ⊥
         by None e h = none-some rank h
-        by (Some mark) e h = none-some rank (sym (none_at (length marks) n None mark (ap (λ ms. slice_get ms n) (sym is) ∙ e)) ∙ h)
+        by (Some mark) e h = none-some rank (get_replicate (length marks) None mark n (ap (λ ms. slice_get ms n) (sym is) ∙ e) ∙ h)
 
 -- one more item of the order
 pub ranked_next : (order : List Ranked) (i : ℕ) (d : Ranked) (marks : List Bool) (ranks new : List (Option ℕ)) → i < length order
@@ -92,8 +84,8 @@ ranked_next order i d marks ranks new within grown old =
     put : slice_get marks item.bit ≡ Some true → AreMarkedRanks (front ++ item ∷ []) marks (set ranks item.bit (Some item.rank))
     put marked = record {
       all = length-set ranks item.bit (Some item.rank) ∙ old.all;
-      only = λ n rank at. only n rank at (same_or_other n item.bit);
-      each = λ n rank has is_marked. each n rank has is_marked (same_or_other n item.bit);
+      only = λ n rank at. only n rank at (cases_eq n item.bit);
+      each = λ n rank has is_marked. each n rank has is_marked (cases_eq n item.bit);
     }
       where
         here : mark_at (set ranks item.bit (Some item.rank)) item.bit ≡ Some item.rank

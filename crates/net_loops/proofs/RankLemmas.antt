@@ -1,5 +1,6 @@
 -- Ranks rise where names do.
-use Rattle.std.proofs.Common.{◌≡◌, ◌≢◌, ℕ, zero, suc, ◌+◌, ◌-◌, ◌<◌, ◌≤◌, ◌⊎◌, inl, inr, Bool, true, false, List, [], ◌∷◌, ◌++◌, Some, get_or, length, map, slice_get, refl, sym, ap, ◌∙◌, subst, arith}
+use Rattle.std.proofs.Common.{◌≡◌, ◌≢◌, ℕ, zero, suc, ◌+◌, ◌-◌, ◌<◌, ◌≤◌, ◌⊎◌, inl, inr, Bool, true, false}
+use Rattle.std.proofs.Common.{List, [], ◌∷◌, ◌++◌, Some, get_or, length, map, slice_get, refl, sym, ap, ◌∙◌, subst, arith}
 use Rattle.std.specs.Prelude.{◌↔◌}
 use Rattle.std.specs.Cmp.{IsTotalOrder}
 use Rattle.std.specs.List.Sorted.{IsSorted}
@@ -8,7 +9,7 @@ use Rattle.std.specs.declared.cmp.Ordering.{Ordering}
 use Rattle.std.specs.declared.cmp.Ordering.TheVariants.{Less, Equal, Greater}
 use Rattle.std.proofs.lemmas.Bool.{cases_lt}
 use Rattle.std.proofs.lemmas.Map.Lookups.{exact_bytes}
-use Rattle.std.proofs.lemmas.Cmp.{nat_list_cmp_total}
+use Rattle.std.proofs.lemmas.Cmp.{nat_list_cmp_total, tied_itself}
 use Rattle.std.proofs.lemmas.List.Sorted.{ranks_by, sorted_far}
 use Rattle.std.proofs.lemmas.Option.{get_or_from_slice_get, same_Some, slice_get-get_or, slice_get_within}
 use Rattle.list_defs.specs.Orders.{name_cmp}
@@ -46,6 +47,15 @@ same_or_other_name a b = by (name_cmp a b) refl
     by Less e = inr (λ same. not_before_itself name_cmp nat_list_cmp_total b (ap (λ x. name_cmp x b) (sym same) ∙ e))
     by Equal e = inl (exact_bytes a b e)
     by Greater e = inr (λ same. not_before_itself name_cmp nat_list_cmp_total a (ap (λ x. name_cmp x a) same ∙ nat_list_cmp_total.antisymm b a ∙ ap ordering_reverse e))
+
+-- the rank stays where the name does
+pub next_same : (a b : List ℕ) (rank : ℕ) → name_cmp a b ≡ Equal → IsNextRank a b rank rank
+next_same a b rank e = record { same = λ same. refl; other = λ other. absurd (other (exact_bytes a b e)) }
+
+-- another name has the next rank
+pub next_other : (a b : List ℕ) (rank more : ℕ) → name_cmp a b ≢ Equal → more ≡ rank + 1 → IsNextRank a b rank more
+next_other a b rank more differ next =
+    record { same = λ same. absurd (differ (ap (λ x. name_cmp x b) same ∙ tied_itself nat_list_cmp_total b)); other = λ other. next }
 
 module _ (all : List Spelled) (order : List Ranked) (rank : ℕ) (up : IsSorted spelled_cmp all) (first : AreRankedFirst all order (length all) rank) where
   -- what stands at two places of the sorted list

@@ -108,7 +108,7 @@ fn least_bits(
     let graph = graph_of(alloc, placed.instances, inner, feeds)?;
     let core = core_of(alloc, graph)?;
     let bits = core.bits(alloc)?;
-    if bits.is_empty() {
+    if bits.as_slice().is_empty() {
         return Ok(None);
     }
     let order = ranks_of(alloc, placed, bits.as_slice())?;

@@ -2,7 +2,6 @@
 ghost use Rattle.std.specs.Prelude.{◌≡◌, ◌+◌, ◌<◌, ℕ, List, IfOk, OnOk, Some, length, slice_get};
 ghost use Rattle.design_defs.specs.Bits.{IsSpot, Spot, spot_cmp};
 ghost use Rattle.design_defs.specs.Hierarchy.{Sources};
-ghost use Rattle.list_defs.specs.Members.{IsIn};
 ghost use Rattle.list_defs.specs.Orders.{AreAllRising, IsPutInOrder};
 ghost use Rattle.net_bits.specs.Placed.{ArePlaced};
 ghost use Rattle.net_loops.specs.Ranks.{AreNameRanks, AreRankedSo, AreSpelled, IsNextRank, spelled_cmp};
@@ -50,15 +49,29 @@ fn sort(all: &mut Vec<Spelled>) -> Result<(), Memory>
     Ok(())
 }
 
-/// The rank of the next bit: that of the one before it, or one more where the name is another.
+/// The rank of a name behind another: the same for the same name, and else the next.
+fn rank_behind(name: &[u8], next: &[u8], rank: u32) -> Result<u32, Memory>
+    ensures { IfOk result (λ more. IsNextRank name.now next.now rank more) }
+{
+    match name.cmp(next) {
+        Ordering::Equal => Ok(rank),
+        Ordering::Less | Ordering::Greater => {
+            let more = rank.checked_add(1).ok_or(Memory)?;
+            Ok(more)
+        }
+    }
+}
+
+/// The rank of the next bit, behind the one before it. That of the first is given.
 fn next_rank(all: &[Spelled], at: usize, rank: u32) -> Result<u32, Memory>
     requires { at < length all.now }
     ensures { IfOk result (λ next. (a b : Item) → (before : ℕ) → before + 1 ≡ at → slice_get all.now before ≡ Some a → slice_get all.now at ≡ Some b → IsNextRank a.name b.name rank next) }
 {
-    if at == 0 || all[at - 1].name.as_slice() == all[at].name.as_slice() {
+    if at == 0 {
         return Ok(rank);
     }
-    rank.checked_add(1).ok_or(Memory)
+    let next = rank_behind(all[at - 1].name.as_slice(), all[at].name.as_slice(), rank)?;
+    Ok(next)
 }
 
 /// The ranks of bits in order.
@@ -80,7 +93,7 @@ fn order_of(alloc: Global, all: &[Spelled]) -> Result<Vec<Ranked>, Memory>
 /// Bits in the order of their names, each with its rank: equal names have equal ranks.
 pub(crate) fn ranks_of(alloc: Global, placed: &Placed, bits: &[u32]) -> Result<Vec<Ranked>, Memory>
     ensures { IfOk result (λ order. (s : Sources) → ArePlaced s placed.now → (spots : List Spot) → AreAllRising spot_cmp (IsSpot s) spots
-        → ((bit : ℕ) → IsIn bit bits.now → bit < length spots) → AreNameRanks s spots bits.now order.items) }
+        → AreNameRanks s spots bits.now order.items) }
 {
     let mut all = names_of(alloc, placed, bits)?;
     sort(&mut all)?;

@@ -3,10 +3,10 @@ use Rattle.std.specs.Option.{option_to_list}
 use Rattle.std.proofs.lemmas.List.{length_push}
 use Rattle.std.proofs.lemmas.Option.{slice_get-get_or}
 use Rattle.design_rows.specs.declared.tables.Feed.{Feed}
-use Rattle.design_rows.specs.declared.tables.Feed.TheVariants.{Nothing}
+use Rattle.design_rows.specs.declared.tables.Feed.TheVariants.{Bit as BitFeed}
 use Rattle.pw_defs.specs.declared.design.Body.TheVariants.{Module as ModuleBody}
 use Rattle.net_instances.specs.declared.numbering.InstanceRow.{InstanceRow}
-use Rattle.net_loops.specs.Graphs.{BeginsFirst}
+use Rattle.net_loops.specs.Graphs.{BeginsFirst, inner_bit}
 use Rattle.net_loops.proofs.GraphLemmas.{graph_row, rows_more}
 use Rattle.net_loops.proofs.graphs.graph_of.Goals as goal
 
@@ -17,7 +17,7 @@ loop-bit-preserved c = record {
   before = λ first r at. let is_low = low first r at in omega (arith, is_low);
   each = λ first. rows_more rows c.args.inner.now feeds c.loop-bit.graph c.add_bit.new.graph sources bit c.loop-bit.invariant.count c.in_ok-add_bit.ensures (c.loop-bit.invariant.each first)
       (graph_row rows c.args.inner.now feeds bit owner row feed c.linked_bit.result c.in_ok-inside.inside row_is (low first row row_is)
-      (λ r at. c.next_owner-owner.ensures.next r (ap (λ (xs : List InstanceRow). slice_get xs (owner + 1)) same ∙ at)) feed_is c.linked_bit.ensures c.in_ok-inside.ensures);
+      (λ r at. c.next_owner-owner.ensures.next r (ap (λ (xs : List InstanceRow). slice_get xs (owner + 1)) same ∙ at)) feed_is c.linked_bit.ensures inside_is);
 }
   where
     rows : List InstanceRow
@@ -54,10 +54,14 @@ loop-bit-preserved c = record {
     row_is = slice_get-get_or rows owner none owner_within
 
     feed : Feed
-    feed = get_or feeds bit Nothing
+    feed = get_or feeds bit (BitFeed 0)
 
     feed_is : slice_get feeds bit ≡ Some feed
-    feed_is = slice_get-get_or feeds bit Nothing c.loop-bit-test.true
+    feed_is = slice_get-get_or feeds bit (BitFeed 0) c.loop-bit-test.true
+
+    -- what feeds it inside is read by the row of the list
+    inside_is : c.in_ok-inside.inside ≡ inner_bit c.args.inner.now row bit
+    inside_is = c.in_ok-inside.ensures ∙ ap (λ (xs : List InstanceRow). inner_bit c.args.inner.now (get_or xs owner none) bit) same
 
     sources : List ℕ
     sources = option_to_list c.linked_bit.result ++ option_to_list c.in_ok-inside.inside

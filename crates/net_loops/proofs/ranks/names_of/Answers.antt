@@ -1,4 +1,4 @@
-use Rattle.std.proofs.Common.{refl, take}
+use Rattle.std.proofs.Common.{◌+◌, refl, take}
 use Rattle.std.proofs.lemmas.List.{take_more}
 use Rattle.net_loops.proofs.NameRanks.{spelled_more}
 use Rattle.net_loops.proofs.ranks.names_of.Goals as goal

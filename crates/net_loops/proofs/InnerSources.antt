@@ -1,35 +1,22 @@
 -- What the tables of cells and models say of the bits of instances.
-use Rattle.std.proofs.Common.{◌≡◌, ℕ, ◌+◌, ◌-◌, ◌<◌, ◌≤◌, ◌⊎◌, inl, inr, List, [], ◌∷◌, ◌++◌}
-use Rattle.std.proofs.Common.{Option, None, Some, get_or, length, option_map, option_and_then, slice_get, refl, sym, ap, ◌∙◌, subst, arith}
-use Rattle.std.specs.List.{AllZip}
-use Rattle.std.specs.Option.{IsSomeAnd, MatchOption, option_to_list}
-use Rattle.std.proofs.lemmas.Bool.{cases_lt}
-use Rattle.std.proofs.lemmas.List.{get_or_past}
-use Rattle.std.proofs.lemmas.Option.{none-some, same_Some, slice_get-get_or, slice_get_within}
-use Rattle.std.proofs.lemmas.Slice.Zip.{AllZip-left, AllZip-right}
+use Rattle.std.proofs.Common.{◌≡◌, ℕ, ◌+◌, ◌-◌, List, Some, length, option_and_then, slice_get, sym, ap, ◌∙◌, subst, arith}
+use Rattle.std.proofs.lemmas.Option.{none-some, same_Some, slice_get_within}
 use Rattle.pw_defs.specs.declared.design.Body.{Body}
 use Rattle.pw_defs.specs.declared.design.Body.TheVariants.{Module as ModuleBody, Cell as CellBody, Model as ModelBody}
 use Rattle.list_defs.specs.Members.{IsIn}
 use Rattle.list_defs.specs.Orders.{AreAllRising}
 use Rattle.list_defs.proofs.Few.{place_of_member}
-use Rattle.list_defs.proofs.Members.{IsIn-append_cases, IsIn-append_left, IsIn-append_right, IsIn-slice_get}
+use Rattle.list_defs.proofs.Members.{IsIn-slice_get}
 use Rattle.list_defs.proofs.OneList.{one_place}
-use Rattle.design_defs.specs.Bits.{IsSpot, Spot, range_in, range_of, spot_cmp}
+use Rattle.design_defs.specs.Bits.{IsSpot, Spot, range_in, spot_cmp}
 use Rattle.design_defs.specs.DesignFaults.{FaultKind, HasNoneBefore}
-use Rattle.design_defs.specs.Designs.{IsLinked}
 use Rattle.design_defs.specs.Hierarchy.{Sources, Way, body_at}
 use Rattle.design_defs.specs.Inputs.{AreReadSources}
-use Rattle.design_defs.specs.Links.{Feeds, IsFed, IsInstLine, IsModelFeed, IsThrough}
-use Rattle.design_defs.specs.Ranges.{bit_name, width}
+use Rattle.design_defs.specs.Ranges.{bit_name}
 use Rattle.design_defs.proofs.BitOrders.{spot_total}
-use Rattle.design_laws.proofs.Lines.{cell_inside, inst_line, line_of, model_inside}
-use Rattle.design_rows.specs.declared.tables.Feed.{Feed}
-use Rattle.design_rows.specs.declared.tables.Feed.TheVariants.{Bit as BitFeed, Constant, Nothing}
 use Rattle.net_bits.specs.Placed.{ArePlaced}
-use Rattle.net_bits.specs.Standing.{IsLastBegun}
 use Rattle.net_bits.specs.declared.placed.Placed.{Placed}
-use Rattle.net_bits.proofs.Spots.{IsOwner, bit_there, counted_at, nets_at, nets_of, same_spots, ways}
-use Rattle.net_feeds.specs.Feeds.{AreFedSo, IsFedSo}
+use Rattle.net_bits.proofs.Spots.{IsOwner, bit_there, counted_at, nets_of, same_spots, ways}
 use Rattle.net_inner.specs.Inside.{AreInnerSources, AreSources, IsFedInside, names_of_bits, source_in}
 use Rattle.net_inner.specs.Pairs.{pairs_of}
 use Rattle.net_inner.specs.declared.inner.Inner.{Inner}
@@ -38,12 +25,8 @@ use Rattle.net_places.specs.Nets.{LocalBit, bit_count, local_bits, spot_of}
 use Rattle.net_places.specs.Plans.{rows_at}
 use Rattle.net_places.specs.Tables.{bits_in}
 use Rattle.net_places.proofs.BitLaws.{local_length}
-use Rattle.net_rings.specs.Fed.{IsFedBy}
-use Rattle.net_loops.specs.Graphs.{BeginsFirst, IsGraph, IsGraphRow, inner_bit, linked_bit}
 use Rattle.net_loops.proofs.Insides.{IsNameAt, at_name, feeds_said, local_are, name_at, names_differ, said_feeds}
 use Rattle.net_loops.proofs.OwnPorts.{IsLeaf}
-use Rattle.design_defs.proofs.OneDesign.{one_source}
-use Rattle.design_laws.proofs.OneFeed.{IsFedFrom, IsGhost, fed_from, one_feed}
 
 -- only cells and models have tables
 pub leaf_of_source : (inner : Inner) (b : Body) (k from : ℕ) → source_in inner b k ≡ Some from → IsLeaf b

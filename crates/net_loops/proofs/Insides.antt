@@ -1,8 +1,7 @@
 -- What feeds bits inside instances, by the numbers of bits.
-use Rattle.std.proofs.Common.{◌≡◌, ℕ, ◌+◌, ◌-◌, ◌<◌, ◌≤◌, ◌⊎◌, inl, inr, Bool, true, false, List, []}
-use Rattle.std.proofs.Common.{◌∷◌, Option, None, Some, map, option_map, option_and_then, slice_get, refl, sym, ap, ◌∙◌, subst, arith}
+use Rattle.std.proofs.Common.{◌≡◌, ℕ, ◌<◌, inl, inr, Bool, true, false, List, [], ◌∷◌, Option, None, Some, map, option_map, option_and_then, slice_get, refl, sym, ap, ◌∙◌, subst, arith}
 use Rattle.std.specs.List.{find, flat_map}
-use Rattle.std.proofs.lemmas.Option.{none-some, same_Some, slice_get-get_or, slice_get-map, slice_get_within}
+use Rattle.std.proofs.lemmas.Option.{same_Some, slice_get-map}
 use Rattle.pw_defs.specs.declared.cells.Cell.{Cell}
 use Rattle.pw_defs.specs.declared.cells.Dir.{Dir}
 use Rattle.pw_defs.specs.declared.cells.Dir.TheVariants.{Input, Output}
@@ -14,7 +13,6 @@ use Rattle.pw_defs.specs.declared.design.Body.{Body}
 use Rattle.pw_defs.specs.declared.design.Body.TheVariants.{Module as ModuleBody, Cell as CellBody, Model as ModelBody}
 use Rattle.pw_defs.specs.declared.model.Model.{Model}
 use Rattle.list_defs.specs.Members.{IsIn, all_differ, same_name}
-use Rattle.list_defs.specs.Orders.{AreAllRising}
 use Rattle.list_defs.proofs.Members.{IsIn-flat_map, IsIn-flat_map_from, IsIn-slice_get}
 use Rattle.list_defs.proofs.Few.{place_of_member}
 use Rattle.list_defs.proofs.NameLemmas.{place_of-own, same_name-equal}
@@ -23,7 +21,7 @@ use Rattle.list_defs.proofs.Rising.{found_in}
 use Rattle.std.specs.Cmp.{IsTotalOrder}
 use Rattle.std.proofs.lemmas.Cmp.{nat_cmp_total, nat_list_cmp_total, on_total, then_total}
 use Rattle.pw_defs.specs.declared.netlist.Port.{Port}
-use Rattle.design_defs.specs.Bits.{IsSpot, Spot, port_named, range_in, range_of, spot_cmp}
+use Rattle.design_defs.specs.Bits.{Spot, port_named, range_in, range_of}
 use Rattle.design_defs.specs.DesignFaults.{FaultKind, HasNoneBefore}
 use Rattle.design_defs.specs.Drivers.{is_interface_cell}
 use Rattle.design_defs.specs.Hierarchy.{Sources, Way, body_at}
@@ -33,12 +31,10 @@ use Rattle.design_defs.specs.Ports.{port_of_pin}
 use Rattle.design_defs.specs.Ranges.{bit_name, width}
 use Rattle.net_bits.specs.Placed.{ArePlaced}
 use Rattle.net_bits.specs.declared.placed.Placed.{Placed}
-use Rattle.net_bits.proofs.Spots.{IsOwner, bit_there, nets_at, nets_of, plan_at, same_spots, ways}
-use Rattle.net_inner.specs.Inside.{AreInnerSources, AreSources, IsFedInside, local_name, named_in, names_of_bits, source_in}
+use Rattle.net_bits.proofs.Spots.{nets_of, plan_at}
+use Rattle.net_inner.specs.Inside.{IsFedInside, local_name, named_in, names_of_bits}
 use Rattle.net_inner.specs.Pairs.{pairs_if_cell, pairs_if_model, pairs_of, pairs_of_cell, pairs_of_dir, pairs_of_partial, pairs_of_pin, pairs_through}
-use Rattle.net_inner.specs.declared.inner.Inner.{Inner}
-use Rattle.net_instances.specs.declared.numbering.InstanceRow.{InstanceRow}
-use Rattle.net_places.specs.Nets.{AreLocalBits, IsLocalBit, LocalBit, local_bits, local_cmp, spot_of}
+use Rattle.net_places.specs.Nets.{AreLocalBits, LocalBit, local_bits, local_cmp, spot_of}
 use Rattle.net_places.proofs.BitLaws.{local_bits_are}
 use Rattle.net_loops.proofs.OwnPorts.{IsLeaf, all_differ-places, bit_alone}
 

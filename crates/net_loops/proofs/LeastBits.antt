@@ -1,5 +1,5 @@
 -- The least bits of rings that were found by numbers.
-use Rattle.std.proofs.Common.{◌≡◌, ℕ, zero, suc, ◌<◌, ◌⊎◌, inl, inr, Bool, true, List, [], ◌∷◌, Option, Some, length, slice_get, refl, sym, ap, ◌∙◌, subst, arith}
+use Rattle.std.proofs.Common.{◌≡◌, ℕ, zero, suc, ◌<◌, ◌⊎◌, Bool, List, [], ◌∷◌, Option, Some, length, slice_get, refl, ap, subst, arith}
 use Rattle.std.specs.Prelude.{◌↔◌}
 use Rattle.std.proofs.lemmas.Option.{slice_get_within}
 use Rattle.std.specs.List.{AllZip}
@@ -7,8 +7,7 @@ use Rattle.list_defs.specs.Members.{IsIn}
 use Rattle.list_defs.specs.Rings.{IsReached}
 use Rattle.list_defs.proofs.Few.{place_of_member}
 use Rattle.list_defs.proofs.Members.{IsIn-slice_get}
-use Rattle.design_defs.specs.Bits.{HasSpotName, IsSpot, Spot}
-use Rattle.design_defs.specs.DesignFaults.{IsLeastOnRing}
+use Rattle.design_defs.specs.Bits.{IsSpot, Spot}
 use Rattle.design_defs.specs.Hierarchy.{Sources}
 use Rattle.design_defs.specs.Links.{Feeds}
 use Rattle.design_rows.specs.declared.tables.Feed.{Feed}
@@ -20,11 +19,10 @@ use Rattle.std.proofs.lemmas.List.{length-map}
 use Rattle.net_rings.specs.Fed.{IsFedBy, IsThere, sources_at, sources_of}
 use Rattle.net_rings.specs.Peeled.{IsCore}
 use Rattle.net_rings.specs.declared.cores.Core.{Core}
-use Rattle.net_rings.specs.Least.{AreAllRanked, AreRanked, HasRank, IsLeastOfRing}
+use Rattle.net_rings.specs.Least.{AreAllRanked, AreRanked, IsLeastOfRing}
 use Rattle.net_rings.specs.declared.minima.Ranked.{Ranked}
 use Rattle.net_loops.specs.Graphs.{IsGraph}
-use Rattle.net_loops.specs.Least.{AreLeastBits, AreMarked, AreMarkedRanks, HasMark, IsLeastAt}
-use Rattle.net_loops.specs.Lines.{mark_at}
+use Rattle.net_loops.specs.Least.{AreLeastBits, AreMarked, AreMarkedRanks}
 use Rattle.net_loops.specs.Ranks.{AreNameRanks}
 use Rattle.net_loops.specs.Ready.{AreReady}
 use Rattle.net_loops.proofs.Between.{between}

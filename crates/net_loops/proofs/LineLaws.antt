@@ -1,6 +1,5 @@
 -- The lines that feed bits by numbers are those of the hierarchy.
-use Rattle.std.proofs.Common.{◌≡◌, ℕ, zero, suc, ◌+◌, ◌-◌, ◌<◌, ◌≤◌, ◌⊎◌, inl, inr, List, [], ◌∷◌, ◌++◌}
-use Rattle.std.proofs.Common.{Option, None, Some, get_or, length, map, option_map, option_and_then, slice_get, refl, sym, ap, ◌∙◌, subst, arith}
+use Rattle.std.proofs.Common.{◌≡◌, ℕ, zero, suc, ◌+◌, ◌-◌, ◌<◌, ◌≤◌, ◌⊎◌, inl, inr, List, [], ◌∷◌, Option, None, Some, get_or, length, option_and_then, slice_get, refl, sym, ap, ◌∙◌, subst, arith}
 use Rattle.std.specs.List.{flat_map, range_with_len}
 use Rattle.std.proofs.lemmas.Bool.{cases_lt}
 use Rattle.std.proofs.lemmas.Option.{get_or_from_slice_get, none-some, same_Some, slice_get-get_or, slice_get_within}
@@ -15,7 +14,7 @@ use Rattle.list_defs.proofs.Members.{IsIn-append_cases, IsIn-append_left, IsIn-a
 use Rattle.list_defs.proofs.OneList.{one_place}
 use Rattle.design_defs.specs.Bits.{IsSpot, Spot, spot_cmp}
 use Rattle.design_defs.specs.DesignFaults.{FaultKind, HasNoneBefore}
-use Rattle.design_defs.specs.Hierarchy.{IsOfModule, Sources, Way, body_at, inst_named, module_at, way_cmp}
+use Rattle.design_defs.specs.Hierarchy.{IsOfModule, Sources, Way, body_at, way_cmp}
 use Rattle.design_defs.specs.Inputs.{AreReadSources}
 use Rattle.design_defs.specs.Links.{IsFed, IsInstLine, IsLink}
 use Rattle.design_defs.proofs.BitOrders.{spot_total, way_total}
@@ -25,7 +24,6 @@ use Rattle.module_rows.specs.Growth.{no_module}
 use Rattle.module_rows.specs.Reads.{inst_at, no_inst}
 use Rattle.module_rows.specs.Reads as reads
 use Rattle.net_bits.specs.Placed.{ArePlaced}
-use Rattle.net_bits.specs.Standing.{IsLastBegun}
 use Rattle.net_bits.specs.declared.placed.Placed.{Placed}
 use Rattle.net_bits.proofs.Spots.{IsOwner, counted_at, nets_at, nets_of, ways}
 use Rattle.net_feeds.specs.LinkNumbers.{AreAllLocal, HasSpotAt, IsLinkAt, IsLinkOf, links_at, links_of_rows, rows_of_body, rows_of_row}

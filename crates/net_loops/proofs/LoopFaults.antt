@@ -1,7 +1,6 @@
 -- The first ring is the first fault of a hierarchy without earlier ones.
-use Rattle.std.proofs.Common.{◌≡◌, ◌≢◌, ℕ, ◌<◌, ◌≤◌, ◌⊎◌, inl, inr, List, [], ◌∷◌, Option, Some, length, slice_get, refl, sym, ap, ◌∙◌, subst, arith}
+use Rattle.std.proofs.Common.{◌≡◌, ◌≢◌, ℕ, ◌<◌, ◌≤◌, ◌⊎◌, inl, inr, List, Option, Some, length, slice_get, refl, sym, ap, ◌∙◌, subst, arith}
 use Rattle.std.specs.Ordering.{nat_cmp, ordering_reverse, ordering_then}
-use Rattle.std.specs.declared.cmp.Ordering.{Ordering}
 use Rattle.std.specs.declared.cmp.Ordering.TheVariants.{Less, Equal, Greater}
 use Rattle.std.proofs.lemmas.Bool.{cases_order}
 use Rattle.std.proofs.lemmas.Cmp.{tied_itself}
@@ -12,17 +11,17 @@ use Rattle.pw_defs.specs.declared.faults.AtModule.{AtModule}
 use Rattle.pw_defs.specs.declared.faults.DesignFault.TheVariants.{N10}
 use Rattle.pw_defs.specs.declared.netlist.Module.{Module}
 use Rattle.list_defs.specs.Members.{IsIn}
-use Rattle.list_defs.specs.Orders.{AreAllRising, IsLeast, name_cmp}
+use Rattle.list_defs.specs.Orders.{AreAllRising, name_cmp}
 use Rattle.list_defs.specs.Rings.{IsReached}
 use Rattle.list_defs.proofs.Few.{place_of_member}
-use Rattle.list_defs.proofs.Members.{IsIn-slice_get}
-use Rattle.list_defs.proofs.OneList.{one_place}
-use Rattle.design_defs.specs.Bits.{HasSpotName, IsSpot, Spot, spot_cmp}
-use Rattle.design_defs.specs.DesignFaults.{Fault, FaultKind, HasFirstFault, IsFault, IsLeastOnRing, answer_of, at_line, fault_cmp, kind_number, place_of_fault, HasNoneBefore}
-use Rattle.design_defs.specs.Hierarchy.{IsOfModule, Sources, Way, body_at, module_at, way_cmp}
-use Rattle.design_defs.specs.Links.{Feeds, IsFed, IsModelFeed}
-use Rattle.design_defs.proofs.BitOrders.{spot_total, way_total}
+use Rattle.design_defs.specs.Bits.{IsSpot, Spot, spot_cmp}
+use Rattle.design_defs.specs.DesignFaults.{Fault, FaultKind, HasFirstFault, IsFault, IsLeastOnRing, at_line, fault_cmp, kind_number, HasNoneBefore}
+use Rattle.design_defs.specs.Hierarchy.{IsOfModule, Sources, Way, body_at, way_cmp}
+use Rattle.design_defs.specs.Links.{Feeds, IsFed}
+use Rattle.design_defs.proofs.BitOrders.{way_total}
+use Rattle.design_laws.proofs.RingLemmas.{first_step}
 use Rattle.design_laws.proofs.Top.{rising_places}
+use Rattle.net_rings.proofs.RingLaws.{last_step}
 use Rattle.net_hierarchy.specs.Ordered.{HasNoneOf}
 use Rattle.design_defs.specs.Inputs.{AreReadSources}
 use Rattle.net_bits.specs.Placed.{ArePlaced}
@@ -80,20 +79,12 @@ record HasNextBit (s : Sources) (x : Spot) : Type 0 where
   feeds : Feeds s x z
 
 module _ (s : Sources) (between : (x y z : Spot) → Feeds s x y → Feeds s y z → IsSpot s y) where
-  first_step : (x y : Spot) → IsReached (Feeds s) x y → (z : Spot) × Feeds s x z
-  first_step _ _ (IsReached.one x y step) = (y, step)
-  first_step _ _ (IsReached.more x z y step rest) = (z, step)
-
-  last_step : (x y : Spot) → IsReached (Feeds s) x y → (z : Spot) × Feeds s z y
-  last_step _ _ (IsReached.one x y step) = (x, step)
-  last_step _ _ (IsReached.more x z y step rest) = last_step z y rest
-
   pub on_ring : (x : Spot) → IsReached (Feeds s) x x → IsSpot s x
-  on_ring x ring = let before = last_step x x ring in let next = first_step x x ring in between before.0 x next.0 before.1 next.1
+  on_ring x ring = let before = last_step (Feeds s) x x ring in let next = first_step (Feeds s) x x ring in between before.before x next.0 before.step next.1
 
   next_bit : (x y : Spot) → IsSpot s y → IsReached (Feeds s) x y → HasNextBit s x
   next_bit _ _ is (IsReached.one x y step) = record { z = y; is_spot = is; feeds = step }
-  next_bit _ _ is (IsReached.more x z y step rest) = let after = first_step z y rest in record { z = z; is_spot = between x z after.0 step after.1; feeds = step }
+  next_bit _ _ is (IsReached.more x z y step rest) = let after = first_step (Feeds s) z y rest in record { z = z; is_spot = between x z after.0 step after.1; feeds = step }
 
 module _ (s : Sources) (p : Placed) (there : ArePlaced s p) (read : AreReadSources s) (early : HasNoneBefore FaultKind.wire_loop s)
     (spots : List Spot) (all : AreAllRising spot_cmp (IsSpot s) spots) (inner : Inner) (sources : AreInnerSources s p inner)

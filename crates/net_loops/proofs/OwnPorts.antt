@@ -1,16 +1,15 @@
 -- Bits of cells and models, the ports that they are of, and their names.
-use Rattle.std.proofs.Common.{◌≡◌, ℕ, zero, suc, ◌<◌, ◌⊎◌, inl, inr, Bool, true, false, not, List, []}
-use Rattle.std.proofs.Common.{◌∷◌, Option, None, Some, map, option_map, option_and_then, slice_get, refl, sym, ap, ◌∙◌, subst, arith}
+use Rattle.std.proofs.Common.{◌≡◌, ℕ, suc, ◌<◌, Bool, true, false, List, [], ◌∷◌, Option, None, Some, option_map, option_and_then, slice_get, refl, sym, ap, ◌∙◌, subst, arith}
 use Rattle.std.specs.List.{list_any}
-use Rattle.std.proofs.lemmas.Option.{same_Some, slice_get-map}
+use Rattle.std.proofs.lemmas.Option.{same_Some}
 use Rattle.pw_defs.specs.declared.design.Body.{Body}
 use Rattle.pw_defs.specs.declared.design.Body.TheVariants.{Module as ModuleBody, Cell as CellBody, Model as ModelBody}
 use Rattle.pw_defs.specs.declared.netlist.Port.{Port}
-use Rattle.list_defs.specs.Members.{IsIn, all_differ, same_name}
+use Rattle.list_defs.specs.Members.{all_differ, same_name}
 use Rattle.list_defs.proofs.Few.{place_of_member}
 use Rattle.list_defs.proofs.NameLemmas.{IsIn-list_any, same_name-equal}
 use Rattle.list_defs.proofs.Rising.{found_in}
-use Rattle.design_defs.specs.Bits.{Spot, port_named, range_in, range_of}
+use Rattle.design_defs.specs.Bits.{Spot, port_named, range_in}
 use Rattle.design_defs.specs.DesignFaults.{FaultKind, HasPortAt, HasNoneBefore}
 use Rattle.design_defs.specs.Hierarchy.{Sources, body_at, ports_in}
 use Rattle.design_defs.specs.Ranges.{bit_name, width}

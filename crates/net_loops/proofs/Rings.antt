@@ -1,6 +1,5 @@
 -- The least bits of rings by their numbers are those of the hierarchy.
-use Rattle.std.proofs.Common.{◌≡◌, ◌≢◌, ℕ, ◌<◌, ◌≤◌, ◌⊎◌, inl, inr, List, Some, length, get_or, slice_get, refl, sym, ap, ◌∙◌, subst, arith}
-use Rattle.std.specs.Prelude.{◌↔◌}
+use Rattle.std.proofs.Common.{◌≡◌, ◌≢◌, ℕ, ◌<◌, ◌≤◌, ◌⊎◌, inl, inr, List, Some, slice_get, refl, sym, ap, ◌∙◌, subst, arith}
 use Rattle.std.specs.declared.cmp.Ordering.TheVariants.{Less}
 use Rattle.std.proofs.lemmas.Bool.{cases_lt}
 use Rattle.std.proofs.lemmas.Cmp.{nat_list_cmp_total}
@@ -19,6 +18,8 @@ use Rattle.design_defs.proofs.BitOrders.{spot_total}
 use Rattle.net_rings.specs.Fed.{IsFedBy}
 use Rattle.net_rings.specs.Least.{AreAllRanked, AreRanked, HasRank, IsFedFrom, IsLeastOfRing}
 use Rattle.net_rings.specs.declared.minima.Ranked.{Ranked}
+use Rattle.design_laws.proofs.RingLemmas.{first_step}
+use Rattle.net_rings.proofs.RingLaws.{reached_both, reached_last}
 use Rattle.net_loops.specs.Ranks.{AreNameRanks}
 use Rattle.list_defs.proofs.Rising.{not_before_itself}
 use Rattle.design_defs.proofs.OneDesign.{spot_name}
@@ -39,14 +40,10 @@ module _ (s : Sources) (spots : List Spot) (all : AreAllRising spot_cmp (IsSpot 
   one_number n m x at other = one_place spot_cmp spot_total spots all.rising n m x at other
 
   -- the first step of a way
-  first_step : (x y : Spot) → IsReached (Feeds s) x y → (z : Spot) × Feeds s x z
-  first_step _ _ (IsReached.one x y step) = (y, step)
-  first_step _ _ (IsReached.more x z y step rest) = (z, step)
-
   pub reach_to : (x y : Spot) (n m : ℕ) → slice_get spots n ≡ Some x → slice_get spots m ≡ Some y → IsReached (Feeds s) x y → IsReached (IsFedBy graph) n m
   reach_to _ _ n m at_x at_y (IsReached.one x y step) = IsReached.one n m (edge_to n m x y at_x at_y step)
   reach_to _ _ n m at_x at_y (IsReached.more x z y step rest) =
-      let next = first_step z y rest in
+      let next = first_step (Feeds s) z y rest in
       let k = number_of z (between x z next.0 step next.1) in
       IsReached.more n k.0 m (edge_to n k.0 x z at_x k.1 step) (reach_to z y k.0 m k.1 at_y rest)
 
@@ -76,10 +73,6 @@ module _ (s : Sources) (spots : List Spot) (all : AreAllRising spot_cmp (IsSpot 
   fed_of : (order : List Ranked) (rank n m : ℕ) → IsReached (IsFedFrom graph order rank) n m → IsReached (IsFedBy graph) n m
   fed_of order rank _ _ (IsReached.one n m step) = IsReached.one n m step.0
   fed_of order rank _ _ (IsReached.more n k m step rest) = IsReached.more n k m step.0 (fed_of order rank k m rest)
-
-  joined_ways : (n k m : ℕ) → IsReached (IsFedBy graph) n k → IsReached (IsFedBy graph) k m → IsReached (IsFedBy graph) n m
-  joined_ways _ _ m (IsReached.one n k step) rest = IsReached.more n k m step rest
-  joined_ways _ _ m (IsReached.more n l k step more) rest = IsReached.more n l m step (joined_ways l k m more rest)
 
   module _ (bits : List ℕ) (order : List Ranked) (names : AreNameRanks s spots bits order) (within : (n : ℕ) → IsIn n bits → (x : Spot) × (slice_get spots n ≡ Some x)) where
     named : (x : Spot) → IsSpot s x → (name : List ℕ) × HasSpotName s x name
@@ -144,7 +137,7 @@ module _ (s : Sources) (spots : List Spot) (all : AreAllRising spot_cmp (IsSpot 
               | inr ghost ↦ not_before next.next e.1 other next.on_ring e.3 (ghost.named other is)
             ]
         none_before k _ _ other at_w on (IsReached.more w v y step rest) is =
-            let after = first_step v y rest in
+            let after = first_step (Feeds s) v y rest in
             let m = number_of v (between w v after.0 step after.1) in
             none_before m.0 v y other m.1 (further k m.0 on (edge_to k m.0 w v at_w m.1 step)) rest is
 
@@ -163,7 +156,7 @@ module _ (s : Sources) (spots : List Spot) (all : AreAllRising spot_cmp (IsSpot 
     ring_spot x ring = by x x refl ring
       where
         by : (v y : Spot) → y ≡ x → IsReached (Feeds s) v y → IsSpot s x
-        by _ _ same (IsReached.one v y step) = let out = first_step x x ring in subst (IsSpot s) same (between v y out.0 step (subst (λ z. Feeds s z out.0) (sym same) out.1))
+        by _ _ same (IsReached.one v y step) = let out = first_step (Feeds s) x x ring in subst (IsSpot s) same (between v y out.0 step (subst (λ z. Feeds s z out.0) (sym same) out.1))
         by _ _ same (IsReached.more v z y step rest) = by z y same rest
 
     -- all bits of the least one's ring are ranked, and none below it
@@ -196,9 +189,9 @@ module _ (s : Sources) (spots : List Spot) (all : AreAllRising spot_cmp (IsSpot 
         from_here _ _ same before (IsReached.more k m l step rest) =
             let to_m : IsReached (IsFedBy graph) n m = elim before [
               | inl is ↦ IsReached.one n m (subst (λ (j : ℕ). IsFedBy graph j m) is step)
-              | inr way ↦ joined_ways n k m way (IsReached.one k m step)
+              | inr way ↦ reached_last (IsFedBy graph) n k m way step
             ] in
             let back : IsReached (IsFedBy graph) m n = subst (λ (j : ℕ). IsReached (IsFedBy graph) m j) same rest in
-            let q = ranked m (joined_ways m n m back to_m) in
+            let q = ranked m (reached_both (IsFedBy graph) m n m back to_m) in
             let y = within m (names.only m q.0 q.1) in
             IsReached.more k m l (step, q.0, q.1, low_at m y.0 q.0 y.1 to_m q.1) (from_here m l same (inr to_m) rest)

@@ -1,5 +1,5 @@
 -- The least bits of rings, with marks by numbers.
-use Rattle.std.specs.Prelude.{◌≡◌, ◌<◌, ◌↔◌, ℕ, Bool, true, false, List, Option, Some, None, length, set, slice_get}
+use Rattle.std.specs.Prelude.{◌≡◌, ◌<◌, ◌↔◌, ℕ, Bool, true, false, List, Option, Some, None, length, set, slice_get, MatchOption}
 use Rattle.std.specs.declared.cmp.Ordering.TheVariants.{Less}
 use Rattle.pw_defs.specs.declared.design.Body.TheVariants.{Module as ModuleBody}
 use Rattle.pw_defs.specs.declared.faults.AtModule.{AtModule}
@@ -9,7 +9,6 @@ use Rattle.list_defs.specs.Rings.{IsReached}
 use Rattle.design_defs.specs.Bits.{HasSpotName, IsSpot, Spot, spot_cmp}
 use Rattle.pw_defs.specs.declared.faults.DesignFault.TheVariants.{N10}
 use Rattle.net_hierarchy.specs.Ordered.{HasNoneOf}
-use Rattle.std.specs.Prelude.{MatchOption}
 use Rattle.design_defs.specs.DesignFaults.{FaultKind, HasFirstFault, IsLeastOnRing}
 use Rattle.design_defs.specs.Hierarchy.{Sources}
 use Rattle.design_defs.specs.Links.{Feeds}

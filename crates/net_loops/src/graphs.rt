@@ -1,6 +1,7 @@
-//! What feeds each bit, by links and inside instances.
+//! What feeds each bit, by links and inside instances, as `IsGraph` says. Bits and instances stand in one order, so one walk
+//! through both finds the instance of each bit.
 ghost use Rattle.std.specs.Prelude.{◌≡◌, ◌+◌, ◌<◌, ◌≤◌, ◌++◌, ◌∷◌, [], IfOk, OnOk, Some, length, slice_get};
-ghost use Rattle.std.specs.Option.{option_map, option_to_list};
+ghost use Rattle.std.specs.Option.{option_to_list};
 ghost use Rattle.net_instances.specs.declared.numbering.InstanceRow.{InstanceRow as Instance};
 ghost use Rattle.net_loops.specs.Graphs.{IsGraph, inner_bit, linked_bit};
 

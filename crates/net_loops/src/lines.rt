@@ -1,5 +1,5 @@
-//! The first line that feeds one of the bits with marks.
-ghost use Rattle.std.specs.Prelude.{◌≡◌, ◌+◌, ◌<◌, ℕ, ◌∷◌, [], IfOk, IfSome, MatchOption, Some, length, slice_get};
+//! The first line that feeds one of the bits with marks: by instance, then by line, then by mark, as `IsFirstOfAll` says.
+ghost use Rattle.std.specs.Prelude.{◌≡◌, ◌+◌, ◌<◌, ◌∷◌, [], IfOk, IfSome, Some, length, slice_get};
 ghost use Rattle.std.specs.List.{flat_map};
 ghost use Rattle.module_rows.specs.Reads.{module_at};
 ghost use Rattle.pw_defs.specs.declared.design.Body.TheVariants.{Module as ModuleBody};

@@ -1,4 +1,5 @@
-//! The first ring of bits that feed one another.
+//! The first ring of bits that feed one another: its least bits are found (`AreLeastBits`), and then the first line that
+//! feeds one of them (`IsLoopAnswer`).
 ghost use Rattle.std.specs.Prelude.{◌≡◌, true, List, IfOk, Some, option_map, set, slice_get};
 ghost use Rattle.list_defs.specs.Orders.{AreAllRising};
 ghost use Rattle.design_defs.specs.Bits.{IsSpot, Spot, spot_cmp};
@@ -143,6 +144,8 @@ fn marked_fault(
 ///
 /// Where taking bits away that feed nothing leaves none, nothing more is done. Else time goes with the bits that are left,
 /// times the logarithm of their number, and with all links.
+///
+/// `Err`: memory ran out, or there are no numbers for so many bits.
 pub fn loop_fault(
     alloc: Global,
     placed: &Placed,

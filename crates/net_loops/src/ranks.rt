@@ -1,4 +1,4 @@
-//! Bits in the order of their joined names.
+//! Bits in the order of their joined names, each with its rank, as `AreNameRanks` says.
 ghost use Rattle.std.specs.Prelude.{◌≡◌, ◌+◌, ◌<◌, ℕ, List, IfOk, OnOk, Some, length, slice_get};
 ghost use Rattle.design_defs.specs.Bits.{IsSpot, Spot, spot_cmp};
 ghost use Rattle.design_defs.specs.Hierarchy.{Sources};

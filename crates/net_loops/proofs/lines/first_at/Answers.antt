@@ -1,4 +1,4 @@
-use Rattle.std.proofs.Common.{◌≡◌, ◌∙◌, List, [], None, ap, slice_get, subst}
+use Rattle.std.proofs.Common.{◌≡◌, ◌∙◌, List, [], None, slice_get, subst}
 use Rattle.std.specs.List.{flat_map}
 use Rattle.net_feeds.specs.LinkNumbers.{links_at}
 use Rattle.net_feeds.specs.declared.links.LinkAt.{LinkAt}

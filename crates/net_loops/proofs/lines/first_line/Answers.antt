@@ -1,6 +1,6 @@
-use Rattle.std.proofs.Common.{◌≡◌, ◌<◌, ◌≤◌, ◌⊎◌, inl, inr, ℕ, List, None, Some, length, subst, arith}
+use Rattle.std.proofs.Common.{◌≡◌, ◌<◌, ◌≤◌, ◌⊎◌, inl, inr, ℕ, None, subst, arith}
 use Rattle.std.proofs.lemmas.Bool.{cases_lt}
-use Rattle.net_loops.specs.Lines.{HasNoneAt, IsFirst, lines_at}
+use Rattle.net_loops.specs.Lines.{IsFirst, lines_at}
 use Rattle.net_loops.proofs.lines.first_line.Goals as goal
 
 pub loop-inst-preserved : goal.loop-inst-preserved

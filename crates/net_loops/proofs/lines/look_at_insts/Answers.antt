@@ -1,4 +1,4 @@
-use Rattle.std.proofs.Common.{◌≡◌, ◌∙◌, ℕ, length, subst, arith}
+use Rattle.std.proofs.Common.{◌≡◌, ℕ, length, subst, arith}
 use Rattle.std.specs.List.{flat_map, range_with_len}
 use Rattle.module_rows.specs.Reads.{module_at}
 use Rattle.net_loops.specs.Lines.{FindsFirst, lines_of_inst}

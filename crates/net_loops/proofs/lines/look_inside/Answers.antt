@@ -1,6 +1,5 @@
-use Rattle.std.proofs.Common.{◌≡◌, ◌+◌, ◌∙◌, ℕ, Some, ap, sym, subst, arith}
+use Rattle.std.proofs.Common.{◌≡◌, ◌+◌, ◌∙◌, ℕ, Some, ap, subst, arith}
 use Rattle.std.specs.List.{flat_map, range_with_len}
-use Rattle.net_inner.specs.Inside.{source_in}
 use Rattle.net_loops.specs.Lines.{FindsFirst, line_if, line_of_bit}
 use Rattle.net_loops.proofs.FirstLemmas.{finds_next, finds_none, finds_same}
 use Rattle.net_loops.proofs.lines.look_inside.Goals as goal

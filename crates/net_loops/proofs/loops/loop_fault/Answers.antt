@@ -1,5 +1,4 @@
 use Rattle.std.proofs.Common.{◌≡◌, ℕ, List, Option, option_map, sym, subst}
-use Rattle.std.specs.declared.vec.Vec.{Vec}
 use Rattle.net_loops.specs.Least.{AreLeastBits, IsLeastAnswer}
 use Rattle.net_loops.specs.Ready.{AreReady}
 use Rattle.net_loops.proofs.LoopFaults.{none_without_rings}

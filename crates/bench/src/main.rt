@@ -32,7 +32,8 @@ use std::process::ExitCode;
 use std::rt::Files;
 use std::{env, io};
 
-const USAGE: &str = "usage: bench pairs|apart|chain|pairs-walk|apart-walk|chain-walk|random|flat|nested N, \
+const USAGE: &str =
+    "usage: bench pairs|apart|chain|pairs-walk|apart-walk|chain-walk|random|flat|nested N, \
     bench modes ROOTS MODES, bench library|modules FILE, or bench netlist LIBRARY NETLIST TOP";
 
 /// How many nodes a table may have.

@@ -35,9 +35,9 @@ pub fn modules_told<R: Files>(rt: &R, alloc: Global, file: &str) -> Result<Told,
         Ok(modules) => {
             let (nets, insts) = line_counts(&modules);
             let (count, names) = (modules.len(), modules.symbols());
-            Ok(Told::Counts(
-                format!(in alloc; "modules {count} wires {nets} instances {insts} names {names}")?,
-            ))
+            Ok(Told::Counts(format!(in alloc;
+                "modules {count} wires {nets} instances {insts} names {names}"
+            )?))
         }
         Err(fault) => Ok(Told::Fault(netlist_fault(alloc, &fault)?)),
     }
@@ -104,7 +104,11 @@ fn line_counts(modules: &Modules) -> (u64, u64) {
 
 /// How many modules, instances and bits a design has, how many of its bits another bit feeds, and how many a constant.
 fn design_counts(alloc: Global, design: &Design) -> Result<String, AllocError> {
-    let (modules, insts, bits) = (design.modules().len(), design.len_insts(), design.len_bits());
+    let (modules, insts, bits) = (
+        design.modules().len(),
+        design.len_insts(),
+        design.len_bits(),
+    );
     let (fed, tied) = feeder_counts(design);
     format!(in alloc; "modules {modules} instances {insts} bits {bits} fed {fed} tied {tied}")
 }

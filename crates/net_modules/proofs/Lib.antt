@@ -1,3 +1,4 @@
+pub mod AddedLaws
 pub mod FirstSaid
 pub mod SayingLaws
 pub mod Telling

@@ -1,6 +1,6 @@
 -- What is kept of the modules that were read.
-use Rattle.std.proofs.Common.{◌≡◌, ℕ, ◌≤◌, ◌+◌, ◌⊎◌, inl, inr, List, [], ◌∷◌, ◌++◌, Option, Some, None, length, refl, sym, ap, ◌∙◌, subst, arith}
-use Rattle.std.proofs.lemmas.List.{append_assoc, length-append, map-append}
+use Rattle.std.proofs.Common.{◌≡◌, ℕ, ◌≤◌, ◌+◌, ◌⊎◌, inl, inr, List, [], ◌∷◌, ◌++◌, Option, Some, None, map, length, refl, sym, ap, ◌∙◌, subst, arith}
+use Rattle.std.proofs.lemmas.List.{append-nil, append_assoc, length-append, map-append}
 use Rattle.std.specs.List.{filter_map, flat_map}
 use Rattle.pw_defs.specs.declared.netlist.Module.{Module}
 use Rattle.module_rows.specs.declared.plain.Draft.{Draft}
@@ -62,21 +62,25 @@ module _ (words : List ModuleWords) (m : ModuleWords) where
           let sum : length (f.before ++ x ∷ f.behind) ≡ length f.before + length (x ∷ f.behind) = length-append f.before (x ∷ f.behind) in
           omega (arith, same, all, sum)
 
-  pub read_on : (old new : Draft) (second found : Option Named) → IsReadFrom words old second → IsEnded old new found m
-      → IsReadFrom (words ++ m ∷ []) new (first_of second found)
-  read_on old new None None r e =
+  pub read_on : (held : List Module) (old new : Draft) (second found : Option Named) → IsReadFrom held words old second → IsEnded old new found m
+      → IsReadFrom held (words ++ m ∷ []) new (first_of second found)
+  read_on held old new None None r e =
       let empty : old.current ≡ no_module = ap (λ (d : Draft). d.current) r.1 in (
         none_push r.0 e.0,
         e.1 empty ∙ ap (λ (d : Draft). with_words d m) r.1
-            ∙ ap (λ (modules : List Module). let d : Draft = record { modules = modules; current = no_module } in d) (sym (map-append module_of words (m ∷ []))),
+            ∙ ap (λ (modules : List Module). let d : Draft = record { modules = modules; current = no_module } in d)
+            (append_assoc held (map module_of words) (module_of m ∷ []) ∙ ap (λ (modules : List Module). held ++ modules) (sym (map-append module_of words (m ∷ [])))),
       )
-  read_on old new None (Some named) r e =
+  read_on held old new None (Some named) r e =
       record { inside = m; first_module = first_new r.0 (has_place (declarations m) named e); refused = e }
-  read_on old new (Some named) found r e =
+  read_on held old new (Some named) found r e =
       record { inside = r.inside; first_module = first_kept r.inside r.first_module; refused = r.refused }
 
-pub none_read : (draft : Draft) → draft ≡ record { modules = []; current = no_module } → IsReadFrom [] draft None
-none_read draft e = ((λ front y rest split p. by front y rest split), e)
+pub none_read : (draft : Draft) → draft.current ≡ no_module → IsReadFrom draft.modules [] draft None
+none_read draft e = (
+  (λ front y rest split p. by front y rest split),
+  λ i. (let d : Draft = record { modules = sym (append-nil draft.modules) i; current = e i } in d),
+)
   where
     by : (front : List ModuleWords) (y : ModuleWords) (rest : List ModuleWords) → [] ≡ front ++ y ∷ rest → ⊥
     by front y rest split =

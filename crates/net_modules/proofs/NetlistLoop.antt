@@ -1,6 +1,7 @@
 -- What is kept of the modules that were read, as a loop reads them.
 use Rattle.std.proofs.Common.{◌≡◌, ℕ, ◌<◌, ◌+◌, true, false, List, [], ◌∷◌, ◌++◌, Option, None, Ok, Err, length, refl, sym, ap, subst, ◌∙◌, arith}
 use Rattle.std.proofs.lemmas.List.{length-append}
+use Rattle.pw_defs.specs.declared.netlist.Module.{Module}
 use Rattle.module_rows.specs.declared.plain.Draft.{Draft}
 use Rattle.module_rows.specs.Growth.{no_module}
 use Rattle.text_defs.specs.Grammar.{next, passes, read}
@@ -19,13 +20,13 @@ abbrev Tokens : Type 0
 Tokens = List (Token NetlistClass)
 
 -- some modules were read
-pub record HasModules (old tokens : Tokens) (draft : Draft) (second : Option Named) (count : ℕ) : Type 0 where
+pub record HasModules (held : List Module) (old tokens : Tokens) (draft : Draft) (second : Option Named) (count : ℕ) : Type 0 where
   pub words : List ModuleWords
   pub long : length words ≡ count
   pub kept : Keeps (λ (m : ModuleWords). m) (of_class is_module) module_words 4294967295 words tokens [] old
-  pub is : IsReadFrom words draft second
+  pub is : IsReadFrom held words draft second
 
-pub no_modules : (tokens : Tokens) (draft : Draft) → draft ≡ record { modules = []; current = no_module } → HasModules tokens tokens draft None 0
+pub no_modules : (tokens : Tokens) (draft : Draft) → draft.current ≡ no_module → HasModules draft.modules tokens tokens draft None 0
 no_modules tokens draft e = record {
   words = [];
   long = refl;
@@ -33,10 +34,10 @@ no_modules tokens draft e = record {
   is = none_read draft e;
 }
 
-module _ (old tokens : Tokens) (draft : Draft) (second : Option Named) (count : ℕ) (so_far : HasModules old tokens draft second count) where
+module _ (held : List Module) (old tokens : Tokens) (draft : Draft) (second : Option Named) (count : ℕ) (so_far : HasModules held old tokens draft second count) where
   pub one_module_more : (rest : Tokens) (draft' : Draft) (found after : Option Named) (m : ModuleWords) → count < 4294967295
       → passes (of_class is_module) (next tokens) ≡ true → read module_words tokens ≡ Ok (m, rest) → IsEnded draft draft' found m → after ≡ first_of second found
-      → HasModules old rest draft' after (count + 1)
+      → HasModules held old rest draft' after (count + 1)
   one_module_more rest draft' found after m few more reads ended is =
       let words = so_far.words in
       let lt : length words < 4294967295 = omega (arith, few, so_far.long) in
@@ -45,7 +46,7 @@ module _ (old tokens : Tokens) (draft : Draft) (second : Option Named) (count : 
         long = length-append words (m ∷ []) ∙ ap (λ (n : ℕ). n + 1) so_far.long;
         kept =
             kept_on (λ (m : ModuleWords). m) (of_class is_module) module_words 4294967295 [] words old tokens so_far.kept rest m (words ++ m ∷ []) lt more reads refl;
-        is = subst (IsReadFrom (words ++ m ∷ []) draft') (sym is) (read_on words m draft draft' second found so_far.is ended);
+        is = subst (IsReadFrom held (words ++ m ∷ []) draft') (sym is) (read_on words m held draft draft' second found so_far.is ended);
       }
 
   pub modules_fault : (left : Tokens) → count < 4294967295 → passes (of_class is_module) (next tokens) ≡ true → read module_words tokens ≡ Err left

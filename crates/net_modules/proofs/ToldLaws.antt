@@ -1,5 +1,5 @@
 -- What a text's modules and its second declarations are, by what was read of its tokens.
-use Rattle.std.proofs.Common.{◌≡◌, ℕ, List, [], ◌∷◌, Option, None, Some, Result, Ok, Err, is_some, true, false, refl, sym, ap, ◌∙◌, subst}
+use Rattle.std.proofs.Common.{◌≡◌, ℕ, List, [], ◌∷◌, Option, None, Some, Result, Ok, Err, is_some, map, true, false, refl, sym, ap, ◌∙◌, subst}
 use Rattle.module_rows.specs.declared.plain.Draft.{Draft}
 use Rattle.pw_defs.specs.declared.faults.At.{At}
 use Rattle.pw_defs.specs.declared.faults.NetFault.{NetFault}
@@ -16,26 +16,29 @@ use Rattle.net_text.specs.Streams.{word_view}
 use Rattle.net_text.specs.declared.tokens.NameAt.{NameAt}
 use Rattle.net_text.specs.declared.words.Word.{Word}
 use Rattle.text_defs.specs.Tokens.{Token}
-use Rattle.net_text.specs.NetlistFaults.{ReadsAsModules}
+use Rattle.net_text.specs.ModulesMeant.{module_of}
 use Rattle.net_text.specs.NetlistGrammar.{ModuleWords, Named, NetlistGrammar, netlist}
 use Rattle.net_text.specs.NetlistTokens.{NetlistClass, netlist_tokens}
 use Rattle.net_text.specs.Stopped.{IsFaultNext, IsToldFault}
 use Rattle.net_text.proofs.StoppedLaws.{told_fault, told_words}
-use Rattle.net_modules.specs.Drafts.{IsReadFrom}
+use Rattle.net_modules.specs.Drafts.{AreAdded, IsReadFrom}
 use Rattle.net_modules.specs.Readings.{IsNamedFault, TookWhole}
 
-pub told_modules : (text : List ℕ) (tokens : List (Token NetlistClass)) (words : List ModuleWords) (draft : Draft) (modules : List Module) → tokens ≡ netlist_tokens text
-    → read_whole netlist tokens ≡ Ok words → IsReadFrom words draft None → modules ≡ draft.modules → ReadsAsModules text modules
-told_modules text tokens words draft modules e reads is same =
-    record { words = words; reads = told_words text tokens words e reads; once = is.0; value = same ∙ ap (λ (d : Draft). d.modules) is.1 }
+pub told_modules : (text : List ℕ) (tokens : List (Token NetlistClass)) (words : List ModuleWords) (old draft : Draft) → tokens ≡ netlist_tokens text
+    → read_whole netlist tokens ≡ Ok words → IsReadFrom old.modules words draft None → AreAdded text old draft
+told_modules text tokens words old draft e reads is = record {
+  modules = map module_of words;
+  reads = record { words = words; reads = told_words text tokens words e reads; once = is.0; value = refl };
+  behind = is.1;
+}
 
-pub told_second : (text : List ℕ) (tokens : List (Token NetlistClass)) (words : List ModuleWords) (draft : Draft) (named : Named) (f : NetFault) → tokens ≡ netlist_tokens text
-    → read_whole netlist tokens ≡ Ok words → IsReadFrom words draft (Some named) → IsNamedFault named f → IsToldFault text f
-told_second text tokens words draft named (N1 at) e reads is h = absurd h
-told_second text tokens words draft named (N2 at) e reads is h = absurd h
-told_second text tokens words draft named (N3 at) e reads is h = absurd h
-told_second text tokens words draft named Memory e reads is h = tt
-told_second text tokens words draft named (N4 at) e reads is h =
+pub told_second : (text : List ℕ) (tokens : List (Token NetlistClass)) (words : List ModuleWords) (held : List Module) (draft : Draft) (named : Named) (f : NetFault) → tokens ≡ netlist_tokens text
+    → read_whole netlist tokens ≡ Ok words → IsReadFrom held words draft (Some named) → IsNamedFault named f → IsToldFault text f
+told_second text tokens words held draft named (N1 at) e reads is h = absurd h
+told_second text tokens words held draft named (N2 at) e reads is h = absurd h
+told_second text tokens words held draft named (N3 at) e reads is h = absurd h
+told_second text tokens words held draft named Memory e reads is h = tt
+told_second text tokens words held draft named (N4 at) e reads is h =
     record {
       words = words;
       reads = told_words text tokens words e reads;
@@ -60,18 +63,18 @@ nothing_left g old [] x o e p t = ap whole e
 nothing_left g old (k ∷ rest) x None e p t = absurd (none-some k p)
 nothing_left g old (k ∷ rest) x (Some w) e p t = absurd (false≢true (sym t))
 
-module _ (text : List ℕ) (tokens new : List (Token NetlistClass)) (draft : Draft) (e : tokens ≡ netlist_tokens text) where
+module _ (text : List ℕ) (tokens new : List (Token NetlistClass)) (old draft : Draft) (e : tokens ≡ netlist_tokens text) where
   abbrev Taken : Result (Option NameAt) Stop → Type 0
-  Taken r = TookWhole (λ (found : Option NameAt) (words : List ModuleWords). IsReadFrom words draft (option_map named_view found)) netlist tokens r new
+  Taken r = TookWhole (λ (found : Option NameAt) (words : List ModuleWords). IsReadFrom old.modules words draft (option_map named_view found)) netlist tokens r new
 
-  pub modules_taken : (found : Option NameAt) (modules : List Module) → Taken (Ok found) → found ≡ None → modules ≡ draft.modules → ReadsAsModules text modules
-  modules_taken found modules t none same =
-      let u = subst (λ o. Taken (Ok o)) none t in told_modules text tokens u.0 draft modules e u.1 u.2 same
+  pub modules_taken : (found : Option NameAt) → Taken (Ok found) → found ≡ None → AreAdded text old draft
+  modules_taken found t none =
+      let u = subst (λ o. Taken (Ok o)) none t in told_modules text tokens u.0 old draft e u.1 u.2
 
   pub second_taken : (found : Option NameAt) (second : NameAt) (f : NetFault) → Taken (Ok found) → found ≡ Some second → IsNamedFault (named_view second) f
       → IsToldFault text f
   second_taken found second f t some named =
-      let u = subst (λ o. Taken (Ok o)) some t in told_second text tokens u.0 draft (named_view second) f e u.1 u.2 named
+      let u = subst (λ o. Taken (Ok o)) some t in told_second text tokens u.0 old.modules draft (named_view second) f e u.1 u.2 named
 
   pub fault_taken : (s : Stop) (f : NetFault) → Taken (Err s) → s ≡ stops.Fault → IsFaultNext text (next new) f → IsToldFault text f
   fault_taken s f t fault told = told_fault text tokens new (next new) e (subst (λ r. Taken (Err r)) fault t) refl f told

@@ -3,11 +3,12 @@ use Rattle.std.specs.Prelude.{◌≡◌, ℕ, List, [], ◌∷◌, ◌++◌, Opt
 use Rattle.std.specs.List.{filter_map, flat_map}
 use Rattle.text_defs.specs.FirstPlace.{HasNoPlace}
 use Rattle.pw_defs.specs.declared.netlist.Assign.{Assign}
+use Rattle.pw_defs.specs.declared.netlist.Module.{Module}
 use Rattle.pw_defs.specs.declared.netlist.Net.{Net}
 use Rattle.pw_defs.specs.declared.netlist.Port.{Port}
 use Rattle.module_rows.specs.declared.plain.Draft.{Draft}
 use Rattle.module_rows.specs.Growth.{no_module, with_module, with_net, with_port}
-use Rattle.net_text.specs.NetlistFaults.{HasRefused}
+use Rattle.net_text.specs.NetlistFaults.{HasRefused, ReadsAsModules}
 use Rattle.net_text.specs.NetlistGrammar.{Item, ModuleWords, Named}
 use Rattle.net_text.specs.ModulesMeant.{assigns_in, insts_in, module_of, net_in, port_in}
 use Rattle.net_text.specs.SecondDeclarations.{Declaration, IsRefused, declarations}
@@ -58,7 +59,13 @@ abbrev pub IsEnded : Draft → Draft → Option Named → ModuleWords → Type 0
 IsEnded old new None words = HasNoPlace IsRefused (declarations words) × (old.current ≡ no_module → new ≡ with_words old words)
 IsEnded old new (Some named) words = IsRefusedFirst (declarations words) named
 
--- the modules so far are whole, or one has a declaration that it cannot have
-abbrev pub IsReadFrom : List ModuleWords → Draft → Option Named → Type 0
-IsReadFrom words draft None = HasNoPlace HasRefused words × (draft ≡ record { modules = map module_of words; current = no_module })
-IsReadFrom words draft (Some named) = IsSecondIn words named
+-- the modules so far are whole behind those that were there, or one has a declaration that it cannot have
+abbrev pub IsReadFrom : List Module → List ModuleWords → Draft → Option Named → Type 0
+IsReadFrom held words draft None = HasNoPlace HasRefused words × (draft ≡ record { modules = held ++ map module_of words; current = no_module })
+IsReadFrom held words draft (Some named) = IsSecondIn words named
+
+-- the modules of a text were added behind those that were there, and none is open
+pub record AreAdded (text : List ℕ) (old new : Draft) : Type 0 where
+  pub modules : List Module
+  pub reads : ReadsAsModules text modules
+  pub behind : new ≡ record { modules = old.modules ++ modules; current = no_module }

@@ -1,5 +1,5 @@
 //! The modules of a netlist, one behind the other.
-ghost use Rattle.std.specs.Prelude.{◌≡◌, ◌<◌, ◌≤◌, [], OnOk, length};
+ghost use Rattle.std.specs.Prelude.{◌≡◌, ◌<◌, ◌≤◌, OnOk, length};
 ghost use Rattle.std.specs.Option.{option_map};
 ghost use Rattle.net_text.specs.CommaLists.{named_view};
 ghost use Rattle.net_text.specs.NetlistGrammar.{module_words, netlist};
@@ -48,14 +48,14 @@ fn first_of<'a>(first: Option<NameAt<'a>>, second: Option<NameAt<'a>>) -> Option
     }
 }
 
-/// All modules of a netlist; or the first declaration that its module cannot have.
+/// All modules of a netlist, which are added to the whole ones; or the first declaration that its module cannot have.
 fn modules<'a>(
     alloc: Global,
     tokens: &mut Tokens<'a>,
     builder: &mut Builder,
 ) -> Result<Option<NameAt<'a>>, Stop>
-    requires { builder.old ≡ record { modules = []; current = no_module } }
-    ensures { Took (λ found words. IsReadFrom words builder.new (option_map named_view found)) netlist tokens.old result tokens.new }
+    requires { builder.old.current ≡ no_module }
+    ensures { Took (λ found words. IsReadFrom builder.old.modules words builder.new (option_map named_view found)) netlist tokens.old result tokens.new }
 {
     let mut second = None;
     let mut count: u32 = 0;
@@ -70,14 +70,14 @@ fn modules<'a>(
     Ok(second)
 }
 
-/// The modules of a netlist, behind which nothing stands.
+/// The modules of a netlist, behind which nothing stands, added to the whole ones.
 pub fn whole_netlist<'a>(
     alloc: Global,
     tokens: &mut Tokens<'a>,
     builder: &mut Builder,
 ) -> Result<Option<NameAt<'a>>, Stop>
-    requires { builder.old ≡ record { modules = []; current = no_module } }
-    ensures { TookWhole (λ found words. IsReadFrom words builder.new (option_map named_view found)) netlist tokens.old result tokens.new }
+    requires { builder.old.current ≡ no_module }
+    ensures { TookWhole (λ found words. IsReadFrom builder.old.modules words builder.new (option_map named_view found)) netlist tokens.old result tokens.new }
 {
     let second = modules(alloc, tokens, builder)?;
     if tokens.peek().is_some() {

@@ -1,14 +1,14 @@
 //! The first declaration that a module cannot have.
-ghost use Rattle.std.specs.Prelude.{◌≡◌, Option, Some, IfOk, is_some, map};
+ghost use Rattle.std.specs.Prelude.{◌≡◌, Option, Some, IfOk, is_some, not, map};
 ghost use Rattle.std.specs.List.{filter};
 ghost use Rattle.std.specs.Option.{option_map};
 ghost use Rattle.net_text.specs.CommaLists.{named_view};
 ghost use Rattle.net_text.specs.DeclarationViews.{declaration_view};
 ghost use Rattle.net_text.specs.ParserViews.{shape_view};
-ghost use Rattle.net_text.specs.SecondDeclarations.{HeaderPort, PortDirection, WireName};
+ghost use Rattle.net_text.specs.SecondDeclarations.{HeaderPort, PortDirection, WireName, named_in};
 ghost use Rattle.net_modules.specs.Refusals.{IsRefusal};
 ghost use Rattle.net_modules.specs.Sayings.{is_other, is_refused, range_in, same_range, says_port};
-ghost use Rattle.net_modules.specs.SaidTables.{IsTableOf, said_view};
+ghost use Rattle.net_modules.specs.SaidTables.{HasPlaces, IsTableOf, said_at, said_view};
 
 use crate::names::name_in;
 use crate::said::Said;
@@ -52,12 +52,26 @@ fn is_port_other(given: Option<ShapeOf>, range: Option<(u32, u32)>) -> bool
     }
 }
 
-/// Whether a module cannot have a declaration, by what those before it and those of ports say of its name.
-fn is_refused(declaration: &DeclarationAt<'_>, before: Said, ports: Said) -> bool
-    ensures { result ≡ is_refused (said_view before) (is_some (said_view ports).shape) (declaration_view declaration.now) }
+/// Whether the table of ports has no direction of a name.
+fn is_undirected(ports: &SaidTable, name: &[u8]) -> bool
+    requires { HasPlaces ports.now }
+    ensures { result ≡ not (is_some (said_at ports.now name.now).shape) }
+{
+    match ports.said(name).shape {
+        None => true,
+        Some(_) => false,
+    }
+}
+
+/// Whether a module cannot have a declaration, by what those before it and the table of ports say of its name.
+fn is_refused(declaration: &DeclarationAt<'_>, before: Said, ports: &SaidTable) -> bool
+    requires { HasPlaces ports.now }
+    ensures { result ≡ is_refused (said_view before) (is_some (said_at ports.now (named_in (declaration_view declaration.now)).text).shape) (declaration_view declaration.now) }
 {
     match declaration {
-        DeclarationAt::HeaderPort { shape: None, .. } => before.named || ports.shape.is_none(),
+        DeclarationAt::HeaderPort { name, shape: None } => {
+            before.named || is_undirected(ports, name.text)
+        }
         DeclarationAt::HeaderPort { shape: Some(_), .. } => before.named,
         DeclarationAt::PortDirection { shape, .. } => {
             !before.port || (before.shape.is_some() || is_other(before.wire, shape.range))
@@ -78,13 +92,12 @@ pub fn refusal<'a>(
     requires { IsTableOf ports.now (filter says_port (map declaration_view all.now)) }
     ensures { IfOk result (λ found. IsRefusal (map declaration_view all.now) (option_map named_view found)) }
 {
-    let mut before = SaidTable::new(alloc);
+    let mut so_far = SaidTable::new(alloc);
     for declaration in all {
-        let name = name_in(declaration);
-        if is_refused(declaration, before.said(name.text), ports.said(name.text)) {
-            return Ok(Some(name));
+        let before = so_far.add(declaration)?;
+        if is_refused(declaration, before, ports) {
+            return Ok(Some(name_in(declaration)));
         }
-        before.add(declaration)?;
     }
     Ok(None)
 }

@@ -3,7 +3,7 @@ ghost use Rattle.std.specs.Prelude.{◌≡◌, List, [], ◌∷◌, ◌++◌, So
 ghost use Rattle.std.specs.List.{filter};
 ghost use Rattle.list_defs.specs.Members.{place_of, same_name};
 ghost use Rattle.net_text.specs.DeclarationViews.{declaration_view};
-ghost use Rattle.net_text.specs.SecondDeclarations.{Declaration};
+ghost use Rattle.net_text.specs.SecondDeclarations.{Declaration, named_in};
 ghost use Rattle.net_modules.specs.Sayings.{says_port};
 ghost use Rattle.net_modules.specs.SaidTables.{HasPlaces, IsTableOf, TellsAs, TellsMore, said_at, said_view};
 
@@ -59,24 +59,27 @@ impl SaidTable {
         Ok(place)
     }
 
-    /// Adds what a declaration says.
-    fn note(&mut self, declaration: &DeclarationAt<'_>) -> Result<(), AllocError>
+    /// Adds what a declaration says. The answer is what was said of its name before.
+    fn note(&mut self, declaration: &DeclarationAt<'_>) -> Result<Said, AllocError>
         requires { HasPlaces self.old }
-        ensures { OnOk result (TellsMore self.old self.new (declaration_view declaration.now)) }
+        ensures before { IfOk result (λ before. said_view before ≡ said_at self.old (named_in (declaration_view declaration.now)).text) }
+        ensures more { OnOk result (TellsMore self.old self.new (declaration_view declaration.now)) }
     {
         let name = name_in(declaration);
         let place = self.place(name.text)?;
-        self.said[place as usize] = said_with(self.said[place as usize], declaration);
-        Ok(())
+        let before = self.said[place as usize];
+        self.said[place as usize] = said_with(before, declaration);
+        Ok(before)
     }
 
-    /// Adds a declaration to those that the table tells of.
-    pub fn add(&mut self, declaration: &DeclarationAt<'_>) -> Result<(), AllocError>
+    /// Adds a declaration to those that the table tells of. The answer is what it told of the name before.
+    pub fn add(&mut self, declaration: &DeclarationAt<'_>) -> Result<Said, AllocError>
         requires { HasPlaces self.old }
-        ensures { OnOk result ((given : List Declaration) → IsTableOf self.old given → IsTableOf self.new (given ++ declaration_view declaration.now ∷ [])) }
+        ensures before { IfOk result (λ before. said_view before ≡ said_at self.old (named_in (declaration_view declaration.now)).text) }
+        ensures table { OnOk result ((given : List Declaration) → IsTableOf self.old given → IsTableOf self.new (given ++ declaration_view declaration.now ∷ [])) }
     {
-        self.note(declaration)?;
-        Ok(())
+        let before = self.note(declaration)?;
+        Ok(before)
     }
 
     /// Adds a declaration if it says something of a port.

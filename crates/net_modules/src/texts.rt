@@ -1,8 +1,10 @@
 //! Whole texts: their modules, or their first fault.
-ghost use Rattle.std.specs.Prelude.{◌≡◌, IfOk, IfErr};
+ghost use Rattle.std.specs.Prelude.{◌≡◌, OnOk, IfOk, IfErr};
+ghost use Rattle.module_rows.specs.Growth.{no_module};
 ghost use Rattle.net_text.specs.NetlistFaults.{ReadsAsModules};
 ghost use Rattle.net_text.specs.Stopped.{IsToldFault};
 ghost use Rattle.net_text.specs.CommaLists.{named_view};
+ghost use Rattle.net_modules.specs.Drafts.{AreAdded};
 ghost use Rattle.net_modules.specs.Readings.{IsNamedFault};
 
 use crate::modules::whole_netlist;
@@ -25,18 +27,30 @@ fn second_at(alloc: Global, second: NameAt<'_>) -> NetFault
     }
 }
 
-/// The modules of a netlist's text, or its first fault: where it cannot go on to a netlist, and then a name that is
+/// Adds the modules of a netlist's text behind those of the builder, which has no module open; so several texts are read
+/// into one builder, one call each. Or the text's first fault: where it cannot go on to a netlist, and then a name that
+/// is declared where it cannot be; the builder is of no use then. Want of memory may come in place of any answer.
+pub fn add_modules(alloc: Global, text: &[u8], builder: &mut Builder) -> Result<(), NetFault>
+    requires { builder.old.current ≡ no_module }
+    ensures modules { OnOk result (AreAdded text.now builder.old builder.new) }
+    ensures fault { IfErr result (IsToldFault text.now) }
+{
+    let mut tokens = Tokens::new(text);
+    match whole_netlist(alloc, &mut tokens, builder) {
+        Ok(None) => Ok(()),
+        Ok(Some(second)) => Err(second_at(alloc, second)),
+        Err(Stop::Memory) => Err(NetFault::Memory),
+        Err(Stop::Fault) => Err(fault_next(alloc, text, &tokens)),
+    }
+}
+
+/// The modules of a netlist's text. Or its first fault: where it cannot go on to a netlist, and then a name that is
 /// declared where it cannot be. Want of memory may come in place of any answer.
 pub fn read_modules(alloc: Global, text: &[u8]) -> Result<Modules, NetFault>
     ensures modules { IfOk result (λ read. ReadsAsModules text.now read.modules) }
     ensures fault { IfErr result (IsToldFault text.now) }
 {
-    let mut tokens = Tokens::new(text);
     let mut builder = Builder::new(alloc);
-    match whole_netlist(alloc, &mut tokens, &mut builder) {
-        Ok(None) => Ok(builder.finish()),
-        Ok(Some(second)) => Err(second_at(alloc, second)),
-        Err(Stop::Memory) => Err(NetFault::Memory),
-        Err(Stop::Fault) => Err(fault_next(alloc, text, &tokens)),
-    }
+    add_modules(alloc, text, &mut builder)?;
+    Ok(builder.finish())
 }

@@ -15,13 +15,13 @@ returns-in_err-refused c =
     let p = err_from_is_err_and c.from_residual.result c.from_residual.ensures.1 in
     rw (p.1, p.2)
     (stopped_as module_words netlist c.args.tokens.now c.loop-alloc.tokens c.next_module.new.tokens c.in_err-refused.field-0.0 c.in_err-refused.ensures.took
-    (modules_fault c.args.tokens.now c.loop-alloc.tokens c.loop-alloc.builder (option_map named_view c.loop-alloc.second) c.loop-alloc.count c.loop-alloc.invariant
+    (modules_fault c.args.builder.now.modules c.args.tokens.now c.loop-alloc.tokens c.loop-alloc.builder (option_map named_view c.loop-alloc.second) c.loop-alloc.count c.loop-alloc.invariant
     c.next_module.new.tokens (omega (arith, c.if-count.false)) (sym c.is_next.ensures ∙ c.loop-alloc-test.true)))
 
 pub loop-alloc-preserved : goal.loop-alloc-preserved
 loop-alloc-preserved c =
     let t = c.in_ok-refused.ensures.took in
-    one_module_more c.args.tokens.now c.loop-alloc.tokens c.loop-alloc.builder (option_map named_view c.loop-alloc.second) c.loop-alloc.count c.loop-alloc.invariant
+    one_module_more c.args.builder.now.modules c.args.tokens.now c.loop-alloc.tokens c.loop-alloc.builder (option_map named_view c.loop-alloc.second) c.loop-alloc.count c.loop-alloc.invariant
     c.next_module.new.tokens c.next_module.new.builder (option_map named_view c.in_ok-refused.refused) (option_map named_view c.first_of-second.result) t.0
     (omega (arith, c.if-count.false)) (sym c.is_next.ensures ∙ c.loop-alloc-test.true) t.1 t.2 c.first_of-second.ensures
 
@@ -29,7 +29,7 @@ pub returns : goal.returns
 returns c =
     let so_far = c.loop-alloc.invariant in (
       so_far.words,
-      modules_end c.args.tokens.now c.loop-alloc.tokens c.loop-alloc.builder (option_map named_view c.loop-alloc.second) c.loop-alloc.count so_far
+      modules_end c.args.builder.now.modules c.args.tokens.now c.loop-alloc.tokens c.loop-alloc.builder (option_map named_view c.loop-alloc.second) c.loop-alloc.count so_far
           (sym c.is_next.ensures ∙ c.loop-alloc-test.false),
       so_far.is,
     )

@@ -2,7 +2,6 @@ use Rattle.std.proofs.Common.{◌+◌, ◌≤◌, List, get_or, length, map, tak
 use Rattle.std.proofs.lemmas.List.{length-map}
 use Rattle.net_text.specs.CommaLists.{named_view}
 use Rattle.net_text.specs.DeclarationViews.{declaration_view}
-use Rattle.net_text.specs.NetlistGrammar.{Named}
 use Rattle.net_text.specs.SecondDeclarations.{Declaration, IsRefused, named_in}
 use Rattle.net_modules.specs.Sayings.{Saying}
 use Rattle.net_modules.specs.SaidTables.{IsTableOf, said_at, said_view}
@@ -12,7 +11,7 @@ use Rattle.net_modules.proofs.SayingLaws.{port_shape}
 use Rattle.net_modules.proofs.refusals.refusal.Goals as goal
 
 pub loop-declaration-init : goal.loop-declaration-init
-loop-declaration-init c = record { table = c.new-before.ensures; clear = clear_none IsRefused (map declaration_view c.args.all.now) }
+loop-declaration-init c = record { table = c.new-so_far.ensures; clear = clear_none IsRefused (map declaration_view c.args.all.now) }
 
 pub returns-then-is_refused : goal.returns-then-is_refused
 returns-then-is_refused c =
@@ -20,15 +19,13 @@ returns-then-is_refused c =
     let i = c.loop-declaration.declaration-index in
     let x = get_or xs i no_declaration in
     let d = declaration_view x in
-    let name = ap (λ (n : Named). n.text) c.name_in-name.ensures in
     refused_here (map declaration_view xs) (map declaration_view (take i xs)) d (map declaration_view (drop (i + 1) xs)) i
     (seen_split declaration_view xs i x no_declaration c.loop-declaration-test.true refl)
     (seen_long declaration_view xs i x no_declaration c.loop-declaration-test.true refl) c.loop-declaration.invariant.clear
-    c.is_refused.result (said_view c.said.result) (said_view c.said-in-loop-declaration.result) c.is_refused.ensures
-    (c.said.ensures ∙ ap (said_at c.loop-declaration.before) name ∙ c.loop-declaration.invariant.table.tells (named_in d).text)
-    (ap (λ (s : Saying). s.shape) (c.said-in-loop-declaration.ensures ∙ ap (said_at c.args.ports.now) name ∙ c.requires.tells (named_in d).text)
-    ∙ port_shape (named_in d).text (map declaration_view xs))
-    c.if-is_refused.true (named_view c.name_in-name.result) c.name_in-name.ensures
+    c.is_refused.result (said_view c.in_ok-before.before) (said_at c.args.ports.now (named_in d).text) c.is_refused.ensures
+    (c.in_ok-before.ensures.before ∙ c.loop-declaration.invariant.table.tells (named_in d).text)
+    (ap (λ (s : Saying). s.shape) (c.requires.tells (named_in d).text) ∙ port_shape (named_in d).text (map declaration_view xs))
+    c.if-is_refused.true (named_view c.name_in.result) c.name_in.ensures
 
 pub loop-declaration-preserved : goal.loop-declaration-preserved
 loop-declaration-preserved c =
@@ -36,19 +33,17 @@ loop-declaration-preserved c =
     let i = c.loop-declaration.declaration-index in
     let x = get_or xs i no_declaration in
     let d = declaration_view x in
-    let name = ap (λ (n : Named). n.text) c.name_in-name.ensures in
     record {
       table =
           subst (λ (l : List Declaration). IsTableOf c.add.new.self l) (sym (seen_push declaration_view xs i x no_declaration c.loop-declaration-test.true refl))
-          (c.in_ok-add.ensures _ c.loop-declaration.invariant.table);
+          (c.in_ok-before.ensures.table _ c.loop-declaration.invariant.table);
       clear =
           clear_on (map declaration_view xs) (map declaration_view (take i xs)) d (map declaration_view (drop (i + 1) xs)) i
           (seen_split declaration_view xs i x no_declaration c.loop-declaration-test.true refl)
           (seen_long declaration_view xs i x no_declaration c.loop-declaration-test.true refl) c.loop-declaration.invariant.clear
-          c.is_refused.result (said_view c.said.result) (said_view c.said-in-loop-declaration.result) c.is_refused.ensures
-          (c.said.ensures ∙ ap (said_at c.loop-declaration.before) name ∙ c.loop-declaration.invariant.table.tells (named_in d).text)
-          (ap (λ (s : Saying). s.shape) (c.said-in-loop-declaration.ensures ∙ ap (said_at c.args.ports.now) name ∙ c.requires.tells (named_in d).text)
-          ∙ port_shape (named_in d).text (map declaration_view xs))
+          c.is_refused.result (said_view c.in_ok-before.before) (said_at c.args.ports.now (named_in d).text) c.is_refused.ensures
+          (c.in_ok-before.ensures.before ∙ c.loop-declaration.invariant.table.tells (named_in d).text)
+          (ap (λ (s : Saying). s.shape) (c.requires.tells (named_in d).text) ∙ port_shape (named_in d).text (map declaration_view xs))
           c.if-is_refused.false;
     }
 

@@ -8,6 +8,6 @@ use Rattle.net_modules.proofs.refusals.refusal.Given as goal
 -- the table tells of those so far, and each of them can be
 abbrev pub invariant-loop-declaration : goal.invariant-loop-declaration
 invariant-loop-declaration l = record {
-  table : IsTableOf l.before (map declaration_view (take l.declaration-index l.all));
+  table : IsTableOf l.so_far (map declaration_view (take l.declaration-index l.all));
   clear : AreClearTo IsRefused (map declaration_view l.all) l.declaration-index;
 }

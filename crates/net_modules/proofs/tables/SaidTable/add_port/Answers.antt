@@ -7,4 +7,4 @@ pub returns-then-not-says_port : goal.returns-then-not-says_port
 returns-then-not-says_port c = port_passed c.args.self.now (declaration_view c.args.declaration.now) (sym c.says_port.ensures ∙ c.if-not-says_port.true)
 
 pub returns : goal.returns
-returns c = port_added c.args.self.now _ (declaration_view c.args.declaration.now) (sym c.says_port.ensures ∙ c.if-not-says_port.false) c.in_ok-add.ensures
+returns c = port_added c.args.self.now _ (declaration_view c.args.declaration.now) (sym c.says_port.ensures ∙ c.if-not-says_port.false) c.in_ok-add.ensures.table

@@ -21,7 +21,8 @@ use Rattle.net_text.specs.NetlistGrammar.{ModuleWords, Named, NetlistGrammar, ne
 use Rattle.net_text.specs.NetlistTokens.{NetlistClass, netlist_tokens}
 use Rattle.net_text.specs.Stopped.{IsFaultNext, IsToldFault}
 use Rattle.net_text.proofs.StoppedLaws.{told_fault, told_words}
-use Rattle.net_modules.specs.Drafts.{AreAdded, IsReadFrom}
+use Rattle.net_modules.specs.declared.modules.NetlistRead.{NetlistRead}
+use Rattle.net_modules.specs.Drafts.{AreAdded, IsReadFrom, IsReadWhole}
 use Rattle.net_modules.specs.Readings.{IsNamedFault, TookWhole}
 
 pub told_modules : (text : List ℕ) (tokens : List (Token NetlistClass)) (words : List ModuleWords) (old draft : Draft) → tokens ≡ netlist_tokens text
@@ -64,17 +65,23 @@ nothing_left g old (k ∷ rest) x None e p t = absurd (none-some k p)
 nothing_left g old (k ∷ rest) x (Some w) e p t = absurd (false≢true (sym t))
 
 module _ (text : List ℕ) (tokens new : List (Token NetlistClass)) (old draft : Draft) (e : tokens ≡ netlist_tokens text) where
-  abbrev Taken : Result (Option NameAt) Stop → Type 0
-  Taken r = TookWhole (λ (found : Option NameAt) (words : List ModuleWords). IsReadFrom old.modules words draft (option_map named_view found)) netlist tokens r new
+  abbrev Taken : Result NetlistRead Stop → Type 0
+  Taken r = TookWhole
+      (λ (whole_read : NetlistRead) (words : List ModuleWords). IsReadWhole old.modules words draft (option_map named_view whole_read.second) whole_read.count)
+      netlist tokens r new
 
-  pub modules_taken : (found : Option NameAt) → Taken (Ok found) → found ≡ None → AreAdded text old draft
-  modules_taken found t none =
-      let u = subst (λ o. Taken (Ok o)) none t in told_modules text tokens u.0 old draft e u.1 u.2
+  -- what is known of the second declaration that was found, or of none
+  taken_as : (whole_read : NetlistRead) (found : Option NameAt) (t : Taken (Ok whole_read)) → whole_read.second ≡ found
+      → IsReadFrom old.modules t.0 draft (option_map named_view found)
+  taken_as whole_read found t same = subst (λ (o : Option NameAt). IsReadFrom old.modules t.0 draft (option_map named_view o)) same t.2.is
 
-  pub second_taken : (found : Option NameAt) (second : NameAt) (f : NetFault) → Taken (Ok found) → found ≡ Some second → IsNamedFault (named_view second) f
-      → IsToldFault text f
-  second_taken found second f t some named =
-      let u = subst (λ o. Taken (Ok o)) some t in told_second text tokens u.0 old.modules draft (named_view second) f e u.1 u.2 named
+  pub modules_taken : (whole_read : NetlistRead) → Taken (Ok whole_read) → whole_read.second ≡ None → AreAdded text old draft
+  modules_taken whole_read t none = told_modules text tokens t.0 old draft e t.1 (taken_as whole_read None t none)
+
+  pub second_taken : (whole_read : NetlistRead) (second : NameAt) (f : NetFault) → Taken (Ok whole_read) → whole_read.second ≡ Some second
+      → IsNamedFault (named_view second) f → IsToldFault text f
+  second_taken whole_read second f t some named =
+      told_second text tokens t.0 old.modules draft (named_view second) f e t.1 (taken_as whole_read (Some second) t some) named
 
   pub fault_taken : (s : Stop) (f : NetFault) → Taken (Err s) → s ≡ stops.Fault → IsFaultNext text (next new) f → IsToldFault text f
   fault_taken s f t fault told = told_fault text tokens new (next new) e (subst (λ r. Taken (Err r)) fault t) refl f told

@@ -1,5 +1,5 @@
 -- What a builder of modules is given of a module.
-use Rattle.std.specs.Prelude.{◌≡◌, ℕ, List, [], ◌∷◌, ◌++◌, Option, Some, None, map}
+use Rattle.std.specs.Prelude.{◌≡◌, ℕ, List, [], ◌∷◌, ◌++◌, Option, Some, None, length, map}
 use Rattle.std.specs.List.{filter_map, flat_map}
 use Rattle.text_defs.specs.FirstPlace.{HasNoPlace}
 use Rattle.pw_defs.specs.declared.netlist.Assign.{Assign}
@@ -63,6 +63,11 @@ IsEnded old new (Some named) words = IsRefusedFirst (declarations words) named
 abbrev pub IsReadFrom : List Module → List ModuleWords → Draft → Option Named → Type 0
 IsReadFrom held words draft None = HasNoPlace HasRefused words × (draft ≡ record { modules = held ++ map module_of words; current = no_module })
 IsReadFrom held words draft (Some named) = IsSecondIn words named
+
+-- the same of a whole netlist, with the number of its modules
+pub record IsReadWhole (held : List Module) (words : List ModuleWords) (draft : Draft) (second : Option Named) (count : ℕ) : Type 0 where
+  pub is : IsReadFrom held words draft second
+  pub long : length words ≡ count
 
 -- the modules of a text were added behind those that were there, and none is open
 pub record AreAdded (text : List ℕ) (old new : Draft) : Type 0 where

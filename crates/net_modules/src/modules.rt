@@ -4,7 +4,7 @@ ghost use Rattle.std.specs.Option.{option_map};
 ghost use Rattle.net_text.specs.CommaLists.{named_view};
 ghost use Rattle.net_text.specs.NetlistGrammar.{module_words, netlist};
 ghost use Rattle.module_rows.specs.Growth.{no_module};
-ghost use Rattle.net_modules.specs.Drafts.{IsEnded, IsReadFrom};
+ghost use Rattle.net_modules.specs.Drafts.{IsEnded, IsReadWhole};
 ghost use Rattle.net_modules.specs.Readings.{Took, TookWhole};
 ghost use Rattle.net_modules.specs.Sayings.{first_of};
 
@@ -15,6 +15,13 @@ use net_text::{NameAt, NetClass, Tokens, add_header, header, name};
 use pw_defs::List;
 use std::alloc::Global;
 use text_streams::Stop;
+
+/// What was read of a netlist: the first declaration that its module cannot have, and how many modules there are.
+#[derive(Clone, Copy)]
+pub struct NetlistRead<'a> {
+    pub second: Option<NameAt<'a>>,
+    pub count: u32,
+}
 
 /// The next module, which is added to the whole ones; or the first declaration that it cannot have.
 #[tactic(auto, unfolding(text_defs::specs::Grammar::read))]
@@ -53,9 +60,9 @@ fn modules<'a>(
     alloc: Global,
     tokens: &mut Tokens<'a>,
     builder: &mut Builder,
-) -> Result<Option<NameAt<'a>>, Stop>
+) -> Result<NetlistRead<'a>, Stop>
     requires { builder.old.current ≡ no_module }
-    ensures { Took (λ found words. IsReadFrom builder.old.modules words builder.new (option_map named_view found)) netlist tokens.old result tokens.new }
+    ensures { Took (λ read words. IsReadWhole builder.old.modules words builder.new (option_map named_view read.second) read.count) netlist tokens.old result tokens.new }
 {
     let mut second = None;
     let mut count: u32 = 0;
@@ -67,7 +74,7 @@ fn modules<'a>(
         second = first_of(second, refused);
         count += 1;
     }
-    Ok(second)
+    Ok(NetlistRead { second, count })
 }
 
 /// The modules of a netlist, behind which nothing stands, added to the whole ones.
@@ -75,13 +82,13 @@ pub fn whole_netlist<'a>(
     alloc: Global,
     tokens: &mut Tokens<'a>,
     builder: &mut Builder,
-) -> Result<Option<NameAt<'a>>, Stop>
+) -> Result<NetlistRead<'a>, Stop>
     requires { builder.old.current ≡ no_module }
-    ensures { TookWhole (λ found words. IsReadFrom builder.old.modules words builder.new (option_map named_view found)) netlist tokens.old result tokens.new }
+    ensures { TookWhole (λ read words. IsReadWhole builder.old.modules words builder.new (option_map named_view read.second) read.count) netlist tokens.old result tokens.new }
 {
-    let second = modules(alloc, tokens, builder)?;
+    let whole = modules(alloc, tokens, builder)?;
     if tokens.peek().is_some() {
         return Err(Stop::Fault);
     }
-    Ok(second)
+    Ok(whole)
 }

@@ -1,5 +1,5 @@
 //! Whole texts: their modules, or their first fault.
-ghost use Rattle.std.specs.Prelude.{◌≡◌, OnOk, IfOk, IfErr};
+ghost use Rattle.std.specs.Prelude.{◌≡◌, ◌+◌, OnOk, IfOk, IfErr, length};
 ghost use Rattle.module_rows.specs.Growth.{no_module};
 ghost use Rattle.net_text.specs.NetlistFaults.{ReadsAsModules};
 ghost use Rattle.net_text.specs.Stopped.{IsToldFault};
@@ -28,17 +28,20 @@ fn second_at(alloc: Global, second: NameAt<'_>) -> NetFault
 }
 
 /// Adds the modules of a netlist's text behind those of the builder, which has no module open; so several texts are read
-/// into one builder, one call each. Or the text's first fault: where it cannot go on to a netlist, and then a name that
+/// into one builder, one call each. The answer is how many they are. Or the text's first fault: where it cannot go on to a netlist, and then a name that
 /// is declared where it cannot be; the builder is of no use then. Want of memory may come in place of any answer.
-pub fn add_modules(alloc: Global, text: &[u8], builder: &mut Builder) -> Result<(), NetFault>
+pub fn add_modules(alloc: Global, text: &[u8], builder: &mut Builder) -> Result<u32, NetFault>
     requires { builder.old.current ≡ no_module }
     ensures modules { OnOk result (AreAdded text.now builder.old builder.new) }
+    ensures count { IfOk result (λ count. length builder.new.modules ≡ length builder.old.modules + count) }
     ensures fault { IfErr result (IsToldFault text.now) }
 {
     let mut tokens = Tokens::new(text);
     match whole_netlist(alloc, &mut tokens, builder) {
-        Ok(None) => Ok(()),
-        Ok(Some(second)) => Err(second_at(alloc, second)),
+        Ok(whole) => match whole.second {
+            None => Ok(whole.count),
+            Some(second) => Err(second_at(alloc, second)),
+        },
         Err(Stop::Memory) => Err(NetFault::Memory),
         Err(Stop::Fault) => Err(fault_next(alloc, text, &tokens)),
     }

@@ -31,5 +31,5 @@ returns c =
       so_far.words,
       modules_end c.args.builder.now.modules c.args.tokens.now c.loop-alloc.tokens c.loop-alloc.builder (option_map named_view c.loop-alloc.second) c.loop-alloc.count so_far
           (sym c.is_next.ensures ∙ c.loop-alloc-test.false),
-      so_far.is,
+      record { is = so_far.is; long = so_far.long },
     )

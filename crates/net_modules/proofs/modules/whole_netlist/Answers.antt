@@ -5,11 +5,11 @@ use Rattle.net_modules.proofs.modules.whole_netlist.Goals as goal
 
 pub returns-then-is_some : goal.returns-then-is_some
 returns-then-is_some c =
-    left_over netlist c.args.tokens.now c.modules.new.tokens c.in_ok-second.ensures.0 c.peek.result c.in_ok-second.ensures.1 c.peek.ensures (sym c.is_some.ensures ∙ c.if-is_some.true)
+    left_over netlist c.args.tokens.now c.modules.new.tokens c.in_ok-whole.ensures.0 c.peek.result c.in_ok-whole.ensures.1 c.peek.ensures (sym c.is_some.ensures ∙ c.if-is_some.true)
 
 pub returns : goal.returns
 returns c = (
-  c.in_ok-second.ensures.0,
-  nothing_left netlist c.args.tokens.now c.modules.new.tokens c.in_ok-second.ensures.0 c.peek.result c.in_ok-second.ensures.1 c.peek.ensures (sym c.is_some.ensures ∙ c.if-is_some.false),
-  c.in_ok-second.ensures.2,
+  c.in_ok-whole.ensures.0,
+  nothing_left netlist c.args.tokens.now c.modules.new.tokens c.in_ok-whole.ensures.0 c.peek.result c.in_ok-whole.ensures.1 c.peek.ensures (sym c.is_some.ensures ∙ c.if-is_some.false),
+  c.in_ok-whole.ensures.2,
 )

@@ -6,7 +6,7 @@ use cell_joins::read_cells;
 use design_rows::Design;
 use module_rows::Modules;
 use net_modules::read_modules;
-use pw_defs::{Cells, Feeder};
+use pw_defs::{Bytes, Cells, Feeder, List};
 use pw_outer::{DirShelf, Shelf};
 use std::alloc::{AllocError, Global};
 use std::rt::Files;
@@ -58,18 +58,29 @@ pub fn design_told<R: Files>(
     let Some(netlist) = file_text(rt, alloc, netlist)? else {
         return no_file(alloc);
     };
-    let (library, netlist) = (library.as_slice(), netlist.as_slice());
-    let fault = match design_of_texts(alloc, library, netlist, top.as_bytes()) {
+    let (libraries, netlists) = (one_text(alloc, library)?, one_text(alloc, netlist)?);
+    let models = List::new(alloc);
+    let fault = match design_of_texts(alloc, &libraries, &netlists, models, top.as_bytes()) {
         Ok(design) => return Ok(Told::Counts(design_counts(alloc, &design)?)),
-        Err(TextFault::Library(fault)) => library_fault(alloc, &fault)?,
-        Err(TextFault::Netlist(fault)) => netlist_fault(alloc, &fault)?,
-        Err(TextFault::Design(fault)) => design_fault(alloc, &fault)?,
+        Err(TextFault::Library { fault, .. }) => library_fault(alloc, &fault)?,
+        Err(TextFault::Netlist { fault, .. }) => netlist_fault(alloc, &fault)?,
+        Err(TextFault::Design { fault, .. }) => design_fault(alloc, &fault)?,
     };
     Ok(Told::Fault(fault))
 }
 
 fn no_file(alloc: Global) -> Result<Told, AllocError> {
     Ok(Told::Fault(String::from_str(alloc, "a file can't be read")?))
+}
+
+/// A list of one text.
+fn one_text(alloc: Global, text: Vec<u8>) -> Result<List<Bytes>, AllocError> {
+    let Some(text) = Bytes::from_vec(text) else {
+        return Err(AllocError);
+    };
+    let mut texts = List::new(alloc);
+    texts.push(text)?;
+    Ok(texts)
 }
 
 /// The bytes of a file, `None` where it can't be read.

@@ -1,43 +1,37 @@
-//! Designs of texts.
-ghost use Rattle.std.specs.Prelude.{◌≡◌, [], IfErr, IfOk};
-ghost use Rattle.design_defs.specs.DesignFaults.{IsDesignOf};
-ghost use Rattle.text_designs.specs.Texts.{IsDesignOfTexts, IsFaultOfTexts};
+//! The design that texts make.
+ghost use Rattle.std.specs.Prelude.{IfErr, IfOk};
+ghost use Rattle.text_designs.specs.Texts.{AreReadModels, IsDesignOfTexts, IsFaultOfTexts};
 
-use cell_joins::read_cells;
+use crate::faults::{TextFault, text_of_fault};
+use crate::libraries::cells_of_texts;
+use crate::netlists::modules_of_texts;
 use design_rows::Design;
 use net_design::elaborate;
-use net_modules::read_modules;
-use pw_defs::{DesignFault, LibFault, List, NetFault};
+use pw_defs::{Bytes, List, Model};
 use std::alloc::Global;
 
-/// The first fault of the text of a library, of the text of a netlist, or of the design that they make.
-#[derive(Drop)]
-pub enum TextFault {
-    Library(LibFault),
-    Netlist(NetFault),
-    Design(DesignFault),
-}
-
-/// The design that a library and a netlist make below the top of this name, without models.
+/// The design that libraries and netlists make below the top of this name, where models stand for modules.
+///
+/// Errors: the first fault of the libraries, then of the netlists, then of the design that they make, with the number of
+/// the text that it is told of; or want of memory.
 pub fn design_of_texts(
     alloc: Global,
-    library: &[u8],
-    netlist: &[u8],
+    libraries: &List<Bytes>,
+    netlists: &List<Bytes>,
+    models: List<Model>,
     top: &[u8],
 ) -> Result<Design, TextFault>
-    ensures ok { IfOk result (λ design. IsDesignOfTexts library.now netlist.now top.now design) }
-    ensures cause { IfErr result (λ fault. IsFaultOfTexts library.now netlist.now top.now fault) }
+    requires { AreReadModels models }
+    ensures ok { IfOk result (IsDesignOfTexts libraries.now netlists.now models top.now) }
+    ensures cause { IfErr result (IsFaultOfTexts libraries.now netlists.now models top.now) }
 {
-    let cells = match read_cells(alloc, library) {
-        Ok(cells) => cells,
-        Err(fault) => return Err(TextFault::Library(fault)),
-    };
-    let modules = match read_modules(alloc, netlist) {
-        Ok(modules) => modules,
-        Err(fault) => return Err(TextFault::Netlist(fault)),
-    };
-    match elaborate(alloc, &modules, cells, List::new(alloc), top) {
+    let cells = cells_of_texts(alloc, libraries)?;
+    let read = modules_of_texts(alloc, netlists)?;
+    match elaborate(alloc, &read.modules, cells, models, top) {
         Ok(design) => Ok(design),
-        Err(fault) => Err(TextFault::Design(fault)),
+        Err(fault) => {
+            let text = text_of_fault(&read.counts, &fault);
+            Err(TextFault::Design { text, fault })
+        }
     }
 }

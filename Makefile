@@ -34,6 +34,7 @@ bench: $(PROGRAM) $(DIAGRAMS) $(PROBE)
 
 # Texts that are made to be hard for the readers and for the making of a design.
 hostile: $(DIAGRAMS)
+	cd examples/synthesized && ../../$(DIAGRAMS) netlist cells.lib mapped.v soc | diff counts.txt -
 	python3 tests/hostile.py $(DIAGRAMS)
 	python3 bench/shapes.py $(DIAGRAMS)
 

@@ -1,0 +1,6 @@
+pub mod NameLemmas
+pub mod FeederLemmas
+pub mod RootLemmas
+pub mod GrowthLemmas
+pub mod NetworkLemmas
+pub mod HeldLemmas

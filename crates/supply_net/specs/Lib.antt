@@ -1,0 +1,4 @@
+pub mod Names
+pub mod Networks
+pub mod Feeders
+pub mod Parts

@@ -6,6 +6,6 @@ use Rattle.net_modules.proofs.texts.read_modules.Goals as goal
 
 pub returns-clause-modules : goal.returns-clause-modules
 returns-clause-modules c =
-    let alone =
-        read_alone c.args.text.now c.new-builder.result c.add_modules.new.builder c.in_ok-add_modules.ensures.modules (ap (λ (d : Draft). d.modules) c.new-builder.ensures) in
+    let empty = ap (λ (d : Draft). d.modules) c.new-builder.ensures in
+    let alone = read_alone c.args.text.now c.new-builder.result c.add_modules.new.builder c.in_ok-add_modules.ensures.modules empty in
     subst (ReadsAsModules c.args.text.now) (sym c.finish.ensures) alone

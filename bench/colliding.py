@@ -98,5 +98,4 @@ def main():
             print("| %s | %s | %.2f | %.0f |" % (kind, format(size, ","), seconds, memory), flush=True)
 
 
-if __name__ == "__main__":
-    main()
+main()

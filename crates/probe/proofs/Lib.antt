@@ -1,3 +1,2 @@
 pub mod EvenTables
 pub mod Fitting
-pub mod NoModels

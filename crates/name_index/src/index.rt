@@ -65,7 +65,7 @@ impl NameIndex {
     pub fn find(&self, name: &[u8]) -> Option<u32>
         ensures { result ≡ place_of (same_name name.now) self.now }
     {
-        table::look_up(&self.table, &self.names, name)
+        table::look_up(&self.table, &self.names, name, table::hash(name))
     }
 
     /// The name at a place, which is one of those that there are.
@@ -83,10 +83,11 @@ impl NameIndex {
         ensures new { IfOk result (λ new. new ≡ not (list_any (same_name name.now) self.old)) }
         ensures names { MatchResult result (λ new. MatchBool new (self.new ≡ self.old ++ name.now ∷ []) (self.new ≡ self.old)) (λ _. self.new ≡ self.old) }
     {
-        if self.find(name).is_some() {
+        let hash = table::hash(name);
+        if table::look_up(&self.table, &self.names, name, hash).is_some() {
             return Ok(false);
         }
-        table::put_in(self.alloc, &mut self.table, &mut self.names, name)?;
+        table::put_in(self.alloc, &mut self.table, &mut self.names, name, hash)?;
         Ok(true)
     }
 
@@ -97,12 +98,13 @@ impl NameIndex {
         ensures number { IfOk result (λ number. place_of (same_name name.now) self.new ≡ Some number) }
         ensures names { MatchOption (place_of (same_name name.now) self.old) (MatchResult result (λ _. self.new ≡ self.old ++ name.now ∷ []) (λ _. self.new ≡ self.old)) (λ _. self.new ≡ self.old) }
     {
-        match self.find(name) {
+        let hash = table::hash(name);
+        match table::look_up(&self.table, &self.names, name, hash) {
             Some(number) => return Ok(number),
             None => {}
         }
         let number = self.names.len();
-        table::put_in(self.alloc, &mut self.table, &mut self.names, name)?;
+        table::put_in(self.alloc, &mut self.table, &mut self.names, name, hash)?;
         Ok(number)
     }
 

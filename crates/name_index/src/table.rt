@@ -1,5 +1,5 @@
 //! The table behind an index of names: it tells the number of a name from the name's bytes.
-ghost use Rattle.std.specs.Prelude.{◌≡◌, ◌≢◌, ℕ, ◌+◌, ◌<◌, ◌↔◌, [], ◌∷◌, ◌++◌, List, Some, None, true, length, slice_get, IfOk, OnOk, OnErr, IfSome, IfNone, IsTrue, vec_len};
+ghost use Rattle.std.specs.Prelude.{◌≡◌, ◌≢◌, ℕ, ◌+◌, ◌%◌, ◌<◌, ◌↔◌, [], ◌∷◌, ◌++◌, List, Some, None, true, length, slice_get, slice_index, IfOk, OnOk, OnErr, IfSome, IfNone, IsTrue, vec_len};
 ghost use Rattle.std.specs.Vec.{vec_capacity};
 ghost use Rattle.list_defs.specs.Members.{all_differ, place_of, same_name};
 ghost use Rattle.name_index.specs.Tables.{Finds, IsLinked, IsSameBut, IsSmooth, IsTable, KeepsNumbers, Leads, crowded_number, hash_of, head_of, number_in};
@@ -35,12 +35,13 @@ pub fn empty(alloc: Global) -> Table
 }
 
 /// The place of a name among the names that the table is of.
-pub fn look_up(table: &Table, names: &Names, name: &[u8]) -> Option<u32>
+pub fn look_up(table: &Table, names: &Names, name: &[u8], hash: u64) -> Option<u32>
+    requires hash { hash ≡ hash_of name.now }
     requires table { IsTable names.now table.now }
     requires differ { all_differ same_name names.now ≡ true }
     ensures { result ≡ place_of (same_name name.now) names.now }
 {
-    match linked_number(table, names, name) {
+    match linked_number(table, names, name, hash) {
         Some(number) => Some(number),
         None => crowded_number(table, names, name),
     }
@@ -52,7 +53,9 @@ pub fn put_in(
     table: &mut Table,
     names: &mut Names,
     name: &[u8],
+    hash: u64,
 ) -> Result<(), AllocError>
+    requires hash { hash ≡ hash_of name.now }
     requires table { IsTable names.old table.old }
     requires differ { all_differ same_name names.old ≡ true }
     requires new { place_of (same_name name.now) names.old ≡ None }
@@ -64,9 +67,9 @@ pub fn put_in(
         return Err(AllocError);
     }
     widen(alloc, table, names)?;
-    prepare(alloc, table, name)?;
+    prepare(alloc, table, name, hash)?;
     names.push(name)?;
-    commit(table, name);
+    commit(table, name, hash);
     Ok(())
 }
 
@@ -95,8 +98,9 @@ fn table_of(alloc: Global, names: &Names, places: usize) -> Result<Table, AllocE
     let mut table = bare(alloc, places)?;
     for number in 0..names.len() {
         let name = names.name(number);
-        prepare(alloc, &mut table, name)?;
-        commit(&mut table, name);
+        let hash = hash(name);
+        prepare(alloc, &mut table, name, hash)?;
+        commit(&mut table, name, hash);
     }
     Ok(table)
 }
@@ -114,14 +118,14 @@ fn bare(alloc: Global, places: usize) -> Result<Table, AllocError>
 }
 
 /// Makes room for the link of a further name. Where the place of the name is full, the tree takes its number.
-fn prepare(alloc: Global, table: &mut Table, name: &[u8]) -> Result<(), AllocError>
+fn prepare(alloc: Global, table: &mut Table, name: &[u8], hash: u64) -> Result<(), AllocError>
     requires few { length table.old.links.items < 4294967295 }
     requires smooth { IsSmooth table.old }
     ensures same { IsSameBut name.now table.old table.new }
     ensures room { OnOk result (vec_len table.new.links < vec_capacity table.new.links) }
 {
     table.links.reserve(1)?;
-    if !is_full(table, name) {
+    if !is_full(table, hash) {
         return Ok(());
     }
     let number = table.links.len() as u32;
@@ -129,9 +133,9 @@ fn prepare(alloc: Global, table: &mut Table, name: &[u8]) -> Result<(), AllocErr
     Ok(())
 }
 
-/// Whether the place of a name has as many names as are linked.
-fn is_full(table: &Table, name: &[u8]) -> bool {
-    let mut head = head(table, name);
+/// Whether the place of a hash has as many names as are linked.
+fn is_full(table: &Table, hash: u64) -> bool {
+    let mut head = head(table, hash);
     for _ in 0..MOST_LINKED {
         if head == 0 {
             return false;
@@ -159,7 +163,8 @@ fn crowd(
 }
 
 /// Gives a name the next number: by the tree where that has taken it, else by a link.
-fn commit(table: &mut Table, name: &[u8])
+fn commit(table: &mut Table, name: &[u8], hash: u64)
+    requires hash { hash ≡ hash_of name.now }
     requires few { length table.old.links.items < 4294967295 }
     requires room { vec_len table.old.links < vec_capacity table.old.links }
     requires places { 0 < length table.old.heads.items }
@@ -175,19 +180,20 @@ fn commit(table: &mut Table, name: &[u8])
         table.links.push_reserved(0);
         return;
     }
-    link(table, name);
+    link(table, name, hash);
 }
 
 /// Puts the next number in front of those that are linked at the place of a name.
-fn link(table: &mut Table, name: &[u8])
+fn link(table: &mut Table, name: &[u8], hash: u64)
+    requires hash { hash ≡ hash_of name.now }
     requires few { length table.old.links.items < 4294967295 }
     requires room { vec_len table.old.links < vec_capacity table.old.links }
     requires places { 0 < length table.old.heads.items }
     ensures { IsLinked table.old table.new name.now }
 {
     let number = table.links.len() as u32;
-    let head = head(table, name);
-    let place = hash(name) as usize % table.heads.len();
+    let head = head(table, hash);
+    let place = hash as usize % table.heads.len();
     table.heads[place] = number + 1;
     table.links.push_reserved(head);
 }
@@ -203,13 +209,14 @@ fn has_number(crowded: &BTreeMap<Vec<u8>, u32>, name: &[u8], number: u32) -> boo
 }
 
 /// The number of the name to which the links of its place lead.
-fn linked_number(table: &Table, names: &Names, name: &[u8]) -> Option<u32>
-    requires { IsTable names.now table.now }
+fn linked_number(table: &Table, names: &Names, name: &[u8], hash: u64) -> Option<u32>
+    requires table { IsTable names.now table.now }
+    requires hash { hash ≡ hash_of name.now }
     ensures some { IfSome result (λ n. slice_get names.now n ≡ Some name.now) }
     ensures none { IfNone result ((n : ℕ) → Leads table.now.links.items (head_of table.now name.now) n → slice_get names.now n ≢ Some name.now) }
 {
     let links = table.links.as_slice();
-    let mut head = head(table, name);
+    let mut head = head(table, hash);
     while head > 0 {
         let number = head - 1;
         if is_name(names, number, name) {
@@ -239,19 +246,20 @@ fn is_name(names: &Names, place: u32, name: &[u8]) -> bool
     place < names.len() && names.name(place) == name
 }
 
-/// The head of the place of a name.
-fn head(table: &Table, name: &[u8]) -> u32
-    ensures { result ≡ head_of table.now name.now }
+/// The head of the place of a hash.
+fn head(table: &Table, hash: u64) -> u32
+    ensures { result ≡ slice_index table.now.heads.items (hash % length table.now.heads.items) }
 {
     let places = table.heads.len();
     if places == 0 {
         return 0;
     }
-    table.heads[hash(name) as usize % places]
+    table.heads[hash as usize % places]
 }
 
+/// The hash of a name, which the calls above take beside it, so that it is computed once.
 #[tactic(auto, unfolding(crate::specs::Tables::hash_of))]
-fn hash(name: &[u8]) -> u64
+pub fn hash(name: &[u8]) -> u64
     ensures { result ≡ hash_of name.now }
 {
     let mut hasher = FoldHasher::default();

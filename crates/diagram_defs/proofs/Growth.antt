@@ -1,6 +1,5 @@
 -- A table that grows keeps what its numbers mean.
 use Rattle.std.proofs.Common.{◌≡◌, ℕ, ◌+◌, ◌≤◌, Bool, List, [], ◌∷◌, ◌++◌, length, refl, sym, ap, ◌∙◌, subst, arith, append-nil, append_assoc, length-append}
-use Rattle.std.specs.List.{slice_get}
 use Rattle.list_defs.proofs.Longer.{slice_get-append}
 use Rattle.diagram_defs.specs.Diagrams.{Shape, Diagram, kid, member, IsKid, AreNodes, IsPool, IsSet, IsNumberFor, Grows}
 use Rattle.diagram_defs.specs.Diagrams.IsKid.{empty, whole, node}

@@ -1,5 +1,5 @@
 -- Rows by their numbers.
-use Rattle.std.proofs.Common.{◌≡◌, ℕ, suc, ◌-◌, List, [], ◌∷◌, ◌++◌, Some, length, map, ap, ◌∙◌, refl, arith, length-append}
+use Rattle.std.proofs.Common.{◌≡◌, ℕ, suc, List, [], ◌∷◌, ◌++◌, Some, length, map, ap, ◌∙◌, refl, arith, length-append}
 use Rattle.std.specs.List.{slice_get}
 use Rattle.std.proofs.lemmas.List.{map-append}
 use Rattle.list_defs.proofs.Longer.{early_part, last_part}

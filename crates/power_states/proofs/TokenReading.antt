@@ -15,7 +15,8 @@ not_begun : (left : List ℕ) → begins_with is_word_byte left ≡ false → wo
 not_begun [] h = refl
 not_begun (b ∷ rest) h = rw (h, word_front) refl
 
-front_is : (front left : List ℕ) → list_all is_word_byte front ≡ true → begins_with is_word_byte left ≡ false → word_front (front ++ left) ≡ (front, left)
+-- a word that no further byte of words follows is the longest front
+pub front_is : (front left : List ℕ) → list_all is_word_byte front ≡ true → begins_with is_word_byte left ≡ false → word_front (front ++ left) ≡ (front, left)
 front_is [] left each stop = not_begun left stop
 front_is (b ∷ front) left each stop =
     let first : is_word_byte b ≡ true = and_first (is_word_byte b) (list_all is_word_byte front) each in

@@ -7,7 +7,7 @@ use Rattle.std.specs.List.{list_all}
 use Rattle.tcl_words.specs.Pieces.{is_white}
 use Rattle.tcl_words.proofs.VariableNames.{and_first, and_second}
 use Rattle.power_states.specs.ExpressionWords.{Token, word, opens, shuts, bang, both, either, same, differs, brace, unbrace, comma, quote, is_mark, is_word_byte, begins_with, HasTokens, none, white, a_word, an_opens, a_shuts, a_bang, a_differs, a_both, an_either, a_same, a_brace, an_unbrace, a_comma, a_quote}
-use Rattle.power_states.proofs.TokenReading.{word_front}
+use Rattle.power_states.proofs.TokenReading.{front_is, word_front}
 use Rattle.state_terms.specs.Readings.{Begins, BeginsNot}
 use Rattle.state_terms.specs.declared.words.Mark.{Mark}
 use Rattle.state_terms.specs.declared.words.Mark.TheVariants.{Opens, Shuts, Bang, Both, Either, Same, Differs, Brace, Unbrace, Comma, Quote}
@@ -219,17 +219,6 @@ word_byte text bytes more ink (a_word b front r ts each stop h) = and_first (is_
 
 pub no_word_first : (text : List ℕ) → begins_with is_white text ≡ false → begins_with is_word_byte text ≡ false → BeginsWithNoWord text
 no_word_first text ink stop bytes more h = false≢true (sym stop ∙ word_byte text bytes more ink h)
-
--- the longest front of word bytes is the word
-not_begun : (left : List ℕ) → begins_with is_word_byte left ≡ false → word_front left ≡ ([], left)
-not_begun [] h = refl
-not_begun (b ∷ rest) h = rw (h, word_front) refl
-
-front_is : (front left : List ℕ) → list_all is_word_byte front ≡ true → begins_with is_word_byte left ≡ false → word_front (front ++ left) ≡ (front, left)
-front_is [] left each stop = not_begun left stop
-front_is (b ∷ front) left each stop =
-    let first : is_word_byte b ≡ true = and_first (is_word_byte b) (list_all is_word_byte front) each in
-    rw (first, word_front) (ap (λ (found : List ℕ × List ℕ). (b ∷ found.0, found.1)) (front_is front left (and_second (is_word_byte b) (list_all is_word_byte front) each) stop))
 
 abbrev IsWordBack : List ℕ → List ℕ → List Token → Type 0
 IsWordBack front left tokens = (more : List Token) × (tokens ≡ word front ∷ more) × HasTokens left more

@@ -26,7 +26,7 @@ use Rattle.design_defs.specs.Sound.{HasParentsFirst}
 use Rattle.design_rows.specs.Children.{HasNoneInside, IsNamedInside}
 use Rattle.design_rows.proofs.ChildLemmas.{joined_once}
 use Rattle.design_paths.specs.BitNames.{HasNoBit, HasNoBitFrom, HasNoBitOf, HasNoBracket, IsBitNamed}
-use Rattle.design_paths.specs.PortNames.{has_name}
+use Rattle.port_order.specs.PortNames.{has_name}
 use Rattle.design_paths.specs.Ways.{HasNoneHere, HasNoneOwn}
 use Rattle.design_paths.proofs.WayLemmas.{once, take_front}
 

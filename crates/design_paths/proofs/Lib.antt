@@ -1,5 +1,4 @@
 mod BelowLemmas
-mod PortLemmas
 mod NameLemmas
 mod WayLemmas
 mod HereLemmas

@@ -1,3 +1,2 @@
-pub mod PortNames
 pub mod BitNames
 pub mod Ways

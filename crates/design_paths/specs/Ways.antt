@@ -10,7 +10,7 @@ use Rattle.design_defs.specs.Ports.{ports_of}
 use Rattle.design_defs.specs.Resolves.{HasNameBelow, ResolvesToNothing}
 use Rattle.design_rows.specs.Children.{IsNamedInside}
 use Rattle.design_paths.specs.BitNames.{HasNoBit}
-use Rattle.design_paths.specs.PortNames.{has_name}
+use Rattle.port_order.specs.PortNames.{has_name}
 
 -- x is directly inside the instance, or a port or port bit of its own
 abbrev pub StandsHere : Design → ℕ → Named → Type 0

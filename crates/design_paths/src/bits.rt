@@ -4,10 +4,9 @@ ghost use Rattle.std.specs.Option.{option_and_then};
 ghost use Rattle.std.specs.List.{position};
 ghost use Rattle.design_defs.specs.Ports.{port_at, ports_of};
 ghost use Rattle.design_paths.specs.BitNames.{HasNoBit, HasNoBitFrom, HasNoBitOf, HasNoBracket, IsBitNamed};
-ghost use Rattle.design_paths.specs.PortNames.{has_name};
+ghost use Rattle.port_order.specs.PortNames.{has_name};
 
 use crate::numbers::place_of_bit;
-use crate::ports::port_named;
 use design_rows::Design;
 use pw_defs::{Body, PortBit};
 
@@ -66,7 +65,7 @@ fn bit_of(design: &Design, inst: u32, vector: &[u8], name: &[u8]) -> Option<Port
     requires { inst < length design.now.insts }
     ensures { MatchOption result (HasNoBitOf design.now inst vector.now name.now) (λ b. IsBitNamed design.now inst name.now b) }
 {
-    match port_named(design, inst, vector) {
+    match design.port_named(inst, vector) {
         Some(port) => bit_of_port(design, inst, port, vector, name),
         None => None,
     }

@@ -4,10 +4,8 @@
 mod bits;
 mod numbers;
 mod places;
-mod ports;
 mod resolving;
 
 pub use numbers::{number_of, place_of_bit, place_of_index};
 pub use places::is_at_or_below;
-pub use ports::port_named;
 pub use resolving::resolve;

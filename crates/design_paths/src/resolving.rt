@@ -6,7 +6,6 @@ ghost use Rattle.design_paths.specs.BitNames.{HasNoBit};
 ghost use Rattle.design_paths.specs.Ways.{HasNoSlash, HasNoneBehind, HasNoneDeeper, HasNoneHere, HasNoneInsideOf, HasNoneOwn, IsParted};
 
 use crate::bits::bit_named;
-use crate::ports::port_named;
 use design_rows::Design;
 use pw_defs::Named;
 
@@ -104,7 +103,7 @@ fn own_named(design: &Design, inst: u32, name: &[u8]) -> Option<Named>
     requires { inst < length design.now.insts }
     ensures { MatchOption result (HasNoneOwn design.now inst name.now) (λ x. HasNameBelow design.now inst name.now x) }
 {
-    match port_named(design, inst, name) {
+    match design.port_named(inst, name) {
         Some(port) => Some(Named::Port { inst, port }),
         None => own_bit(design, inst, name),
     }

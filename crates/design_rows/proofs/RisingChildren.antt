@@ -1,38 +1,25 @@
 -- All instances but the first, sorted, are the children in order, or two of them stand side by side that have one name.
 use Rattle.std.proofs.Common.{◌≡◌, ◌≢◌, ◌⊎◌, ℕ, zero, suc, ◌+◌, ◌-◌, ◌<◌, ◌≤◌, true, false, List, [], ◌∷◌, ◌++◌, length, get_or, Some, slice_get, inl, inr, refl, sym, ap, ◌∙◌, subst, eqb, arith}
 use Rattle.std.specs.Cmp.{IsTotalOrder}
-use Rattle.std.specs.List.{All, AllByRecursion, IsAllAdjacentAnswer, IsDistinct, range_with_len}
+use Rattle.std.specs.List.{IsAllAdjacentAnswer, IsDistinct, range_with_len}
 use Rattle.std.specs.List.Sorted.{IsPermutation, IsSorted}
 use Rattle.std.specs.Ordering.{is_lt, ordering_reverse}
 use Rattle.std.specs.declared.cmp.Ordering.{Ordering}
 use Rattle.std.specs.declared.cmp.Ordering.TheVariants.{Less, Equal, Greater}
 use Rattle.std.proofs.lemmas.Bool.{cases_eq, cases_lt, eq-eqb, eqb-false, ne_eqb}
 use Rattle.std.proofs.lemmas.Cmp.{on_total}
-use Rattle.std.proofs.lemmas.List.Elements.{recursion_from_All}
 use Rattle.std.proofs.lemmas.List.FromFn.{get_or-range_with_len, length-range_with_len}
-use Rattle.std.proofs.lemmas.List.Sorted.{All-permutation, IsPermutation-sym}
+use Rattle.std.proofs.lemmas.List.Sorted.{IsPermutation-sym}
 use Rattle.std.proofs.lemmas.Map.Keys.{IsDistinct-IsPermutation, IsDistinct-from_apart, apart_from_distinct}
-use Rattle.std.proofs.lemmas.Option.{slice_get-get_or}
 use Rattle.list_defs.specs.Members.{IsIn}
-use Rattle.list_defs.specs.Orders.{IsRising}
 use Rattle.list_defs.proofs.Few.{place_of_member}
-use Rattle.list_defs.proofs.Members.{IsIn-slice_get}
-use Rattle.list_defs.proofs.Rising.{each_in, not_before_itself, rising_at}
+use Rattle.list_defs.proofs.Rising.{not_before_itself, rising_at}
+use Rattle.port_order.proofs.ListingLemmas.{in_range, range_has}
+use Rattle.port_order.proofs.Risings.{all_in, rising_from_answer, still_in}
 use Rattle.design_rows.proofs.ChildLemmas.{child_key, key_total, same_key}
 use Rattle.design_rows.specs.declared.tables.Rows.{Rows}
 use Rattle.design_rows.specs.Children.{HasChildren, HasNameTwice, IsInner, child_cmp, key_cmp, key_of}
 use Rattle.design_rows.specs.Growth.{with_children}
-
--- the numbers of a range
-in_range : (x a n : ℕ) → IsIn x (range_with_len a n) → (a ≤ x) × (x < a + n)
-in_range x a zero there = absurd there
-in_range x a (suc n) (inl same) = (omega (arith, same), omega (arith, same))
-in_range x a (suc n) (inr later) = let rest = in_range x (a + 1) n later in (omega (arith, rest.0), omega (arith, rest.1))
-
-range_has : (x a n : ℕ) → a ≤ x → x < a + n → IsIn x (range_with_len a n)
-range_has x a zero from to = absurd (omega (arith, from, to))
-range_has x a (suc n) from to =
-    elim (cases_eq x a) [ inl same ↦ inl same | inr other ↦ inr (range_has x (a + 1) n (omega (arith, from, other)) (omega (arith, to))) ]
 
 -- the range up to the next number
 range_push : (a n : ℕ) → range_with_len a (suc n) ≡ range_with_len a n ++ (a + n) ∷ []
@@ -56,35 +43,6 @@ range_distinct a n = IsDistinct-from_apart eqb (range_with_len a n) (λ i j d be
     let long = length-range_with_len a n in
     ne_eqb (get_or (range_with_len a n) i d) (get_or (range_with_len a n) j d)
     (λ same. absurd (omega (arith, same, before, within, long, get_or-range_with_len a n i d (omega (arith, before, within, long)), get_or-range_with_len a n j d (omega (arith, within, long))))))
-
--- a list put in another order has the same
-all_in : {X : Type 0} (xs : List X) → All (λ x. IsIn x xs) xs
-all_in xs k d within = IsIn-slice_get xs k (get_or xs k d) (slice_get-get_or xs k d within)
-
-pub still_in : {X : Type 0} (xs ys : List X) → IsPermutation xs ys → (x : X) → IsIn x xs → IsIn x ys
-still_in xs ys moved x there =
-    each_in (λ y. IsIn y ys) xs x (recursion_from_All (λ y. IsIn y ys) xs (All-permutation (λ y. IsIn y ys) ys xs (IsPermutation-sym xs ys moved) (all_in ys))) there
-
--- what is before the first of a list is before what that is before
-before_all : {X : Type 0} (cmp : X → X → Ordering) → IsTotalOrder cmp → (x y : X) (ys : List X) → cmp x y ≡ Less → AllByRecursion (λ z. cmp y z ≡ Less) ys
-    → AllByRecursion (λ z. cmp x z ≡ Less) ys
-before_all cmp total x y [] less all = tt
-before_all cmp total x y (z ∷ zs) less all = (total.trans x y z less all.0, before_all cmp total x y zs less all.1)
-
-is_less : (o : Ordering) → is_lt o ≡ true → o ≡ Less
-is_less Less lt = refl
-is_less Equal lt = cc
-is_less Greater lt = cc
-
--- a list of which each comes before the next is rising
-rising_from_next : {X : Type 0} (cmp : X → X → Ordering) → IsTotalOrder cmp → (xs : List X)
-    → ((k : ℕ) (d : X) → suc k < length xs → cmp (get_or xs k d) (get_or xs (suc k) d) ≡ Less) → IsRising cmp xs
-rising_from_next cmp total [] next = tt
-rising_from_next cmp total (x ∷ []) next = (tt, tt)
-rising_from_next cmp total (x ∷ y ∷ ys) next =
-    let rest = rising_from_next cmp total (y ∷ ys) (λ k d within. next (suc k) d (omega (arith, within))) in
-    let first = next 0 x (omega arith) in
-    ((first, before_all cmp total x y ys first rest.0), rest)
 
 -- neither comes before the other
 neither : (a b : Ordering) → a ≡ ordering_reverse b → is_lt a ≡ false → is_lt b ≡ false → a ≡ Equal
@@ -119,9 +77,7 @@ module _ (r : Rows) (sorted : List ℕ) (moved : IsPermutation (range_with_len 1
 
   pub children_of : IsAllAdjacentAnswer (λ one other rises. rises ≡ is_lt (child_cmp r one other)) sorted true → HasChildren (with_children r sorted)
   children_of rises = record {
-    rising = rising_from_next (child_cmp r) child_total sorted (λ k d within.
-        subst (λ (n : ℕ). child_cmp r (get_or sorted k d) (get_or sorted n d) ≡ Less) {x = k + 1} {y = suc k} (omega arith)
-        (is_less (child_cmp r (get_or sorted k d) (get_or sorted (k + 1) d)) (sym (rises k d (omega (arith, within))))));
+    rising = rising_from_answer (child_cmp r) child_total sorted rises;
     each = each_inner;
     all = all_inner;
   }

@@ -1,7 +1,9 @@
 -- Rows that can be read, and rows of a sound design.
-use Rattle.std.specs.Prelude.{◌≡◌, ℕ, ◌+◌, ◌<◌, ◌≤◌, length, take}
+use Rattle.std.specs.Prelude.{◌≡◌, ℕ, ◌+◌, ◌<◌, ◌≤◌, List, length, take}
 use Rattle.std.specs.List.{sum_by}
 use Rattle.design_defs.specs.Sound.{IsSoundDesign}
+use Rattle.port_order.specs.PortOrders.{IsPortOrder}
+use Rattle.port_order.specs.declared.keys.PortNumber.{PortNumber}
 use Rattle.design_rows.specs.declared.tables.Rows.{Rows}
 use Rattle.design_rows.specs.Children.{HasChildren, HasNames}
 use Rattle.design_rows.specs.View.{design_of, inst_at, kind_at, place_at, place_name, size}
@@ -24,6 +26,11 @@ pub record IsSound (r : Rows) : Type 0 where
   pub children : HasChildren r
   pub names : HasNames r
   pub design : IsSoundDesign (design_of r)
+
+-- rows of a sound design, with all their ports in order
+pub record AreStored (r : Rows) (ports : List PortNumber) : Type 0 where
+  pub sound : IsSound r
+  pub in_order : IsPortOrder r.modules r.cells r.models ports
 
 -- the instance owns the bit
 pub record Owns (r : Rows) (owner n : ℕ) : Type 0 where

@@ -1,14 +1,18 @@
 //! A sound design, stored in rows.
-ghost use Rattle.std.specs.Prelude.{◌≡◌, ◌<◌, ◌++◌, Some, length, slice_get, IfSome, MatchOption, OnOk};
+ghost use Rattle.std.specs.Prelude.{◌≡◌, ◌<◌, ◌++◌, Some, length, slice_get, IfOk, IfSome, MatchOption, OnOk};
+ghost use Rattle.std.specs.List.{position};
 ghost use Rattle.std.specs.Option.{option_and_then, option_map};
+ghost use Rattle.design_defs.specs.Ports.{ports_of};
 ghost use Rattle.design_defs.specs.Sound.{IsSoundDesign};
 ghost use Rattle.design_defs.specs.Walks.{feeder_at, next_of};
+ghost use Rattle.port_order.specs.PortNames.{has_name};
 ghost use Rattle.design_rows.specs.Children.{HasNamesInside, HasNoneInside, IsNamedInside};
 ghost use Rattle.design_rows.specs.Sound.{IsSound};
 ghost use Rattle.design_rows.specs.View.{design_of};
 
 use crate::tables::Rows;
 use crate::{children, reads};
+use port_order::PortOrder;
 use pw_defs::{Body, Bytes, Cells, Feeder, List, Model as SoftMacro, Module, PortBit};
 use std::alloc::AllocError;
 use std::marker::Model;
@@ -17,6 +21,7 @@ use std::marker::Model;
 #[derive(Drop)]
 pub struct Design {
     rows: Rows,
+    ports: PortOrder,
 }
 
 impl Model for Design {
@@ -28,22 +33,28 @@ impl Model for Design {
 
     ghost coded = { Prim.hlevel (codes, expr.the_row.coded) };
 
-    ghost use Rattle.design_rows.specs.Sound.{IsSound};
+    ghost use Rattle.design_rows.specs.Sound.{AreStored};
     ghost use Rattle.design_rows.specs.View.{design_of};
 
     ghost view = { λ d. design_of d.rows };
 
-    ghost invariant = { λ d. IsSound d.rows };
+    ghost invariant = { λ d. AreStored d.rows d.ports };
 }
 
 #[tactic(auto, using(crate::proofs::RowLemmas::reads), unfolding(crate::specs::View::bit_at, crate::specs::View::instance_at))]
 impl Design {
-    /// The design of rows that are sound.
-    pub fn new(rows: Rows) -> Design
+    /// The design of rows that are sound. An error says that memory ended.
+    pub fn new(rows: Rows) -> Result<Design, AllocError>
         requires { IsSound rows }
-        ensures { result ≡ design_of rows }
+        ensures { IfOk result (λ design. design ≡ design_of rows) }
     {
-        Design { rows }
+        let ports = PortOrder::new(
+            *rows.feeds.allocator(),
+            &rows.modules,
+            &rows.cells,
+            &rows.models,
+        )?;
+        Ok(Design { rows, ports })
     }
 
     /// Every design of this type is sound.
@@ -102,6 +113,15 @@ impl Design {
     {
         let rows = &self.rows;
         reads::kind(rows, reads::instance(rows, n)).body
+    }
+
+    /// The first port or pin of an instance that has this name.
+    pub fn port_named(&self, n: u32, name: &[u8]) -> Option<u32>
+        requires { n < length self.now.insts }
+        ensures { result ≡ option_and_then (position (has_name name.now)) (ports_of self.now n) }
+    {
+        let rows = &self.rows;
+        self.ports.find(&rows.modules, &rows.cells, &rows.models, self.body(n), name)
     }
 
     /// What an instance is inside; the first, which is the top, is inside none.

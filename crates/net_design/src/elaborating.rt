@@ -123,7 +123,7 @@ fn ordered_design(rows: Rows) -> Result<Design, Memory>
     if !apart {
         return Err(Memory);
     }
-    let design = Design::new(rows);
+    let design = Design::new(rows)?;
     Ok(design)
 }
 

@@ -14,7 +14,7 @@ use Rattle.list_defs.proofs.Longer.{slice_get_front, slice_get_last}
 use Rattle.list_defs.proofs.Members.{IsIn-append_cases, IsIn-map, IsIn-map_from, IsIn-slice_get}
 use Rattle.design_defs.specs.Bits.{HasSpotName, IsSpot, Spot, spot_cmp}
 use Rattle.design_defs.specs.Hierarchy.{Sources}
-use Rattle.design_rows.proofs.RisingChildren.{still_in}
+use Rattle.port_order.proofs.Risings.{still_in}
 use Rattle.net_bits.specs.Placed.{ArePlaced}
 use Rattle.net_bits.specs.declared.placed.Placed.{Placed}
 use Rattle.net_rings.specs.Least.{HasRank}

@@ -23,4 +23,4 @@ new-design-requires c =
 pub returns : goal.returns
 returns c =
     let new = c.order_children.new.self in
-    c.new-design.ensures ∙ ap design_of c.in_ok-apart.ensures.kept ∙ same_design c.args.rows new.children
+    c.in_ok-design.ensures ∙ ap design_of c.in_ok-apart.ensures.kept ∙ same_design c.args.rows new.children

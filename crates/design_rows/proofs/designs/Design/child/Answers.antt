@@ -9,4 +9,4 @@ returns c =
     let outer = c.args.outer in
     let name = c.args.name.now in
     let P : Design → Type 0 = λ d. MatchOption c.child.result (HasNoneInside d outer name) (λ n. IsNamedInside d outer name n) in
-    subst P c.self.view_is (found_named c.self.inside.rows c.self.invariant.rows outer name c.child.result c.child.ensures)
+    subst P c.self.view_is (found_named c.self.inside.rows c.self.invariant.sound.rows outer name c.child.result c.child.ensures)

@@ -1,5 +1,8 @@
 -- Rows that grow.
 use Rattle.std.specs.Prelude.{◌≡◌, ℕ, Bool, true, false, List, [], ◌∷◌, ◌++◌, replicate, slice_set}
+use Rattle.pw_defs.specs.declared.cells.Cells.{Cells}
+use Rattle.pw_defs.specs.declared.model.Model.{Model}
+use Rattle.pw_defs.specs.declared.netlist.Module.{Module}
 use Rattle.design_rows.specs.Children.{HasChildren, HasNameTwice}
 use Rattle.design_rows.specs.declared.tables.Feed.{Feed}
 use Rattle.design_rows.specs.declared.tables.InstanceRow.{InstanceRow}
@@ -7,6 +10,15 @@ use Rattle.design_rows.specs.declared.tables.KindRow.{KindRow}
 use Rattle.design_rows.specs.declared.tables.PlaceRow.{PlaceRow}
 use Rattle.design_rows.specs.declared.tables.Rows.{Rows}
 use Rattle.design_rows.specs.View.{no_feed, size}
+
+-- the rows have these parts, and no names, kinds and instances yet
+pub record IsEmpty (cells : Cells) (modules : List Module) (models : List Model) (r : Rows) : Type 0 where
+  pub same_cells : r.cells ≡ cells
+  pub same_modules : r.modules ≡ modules
+  pub same_models : r.models ≡ models
+  pub no_names : r.names ≡ []
+  pub no_kinds : r.kinds ≡ []
+  pub no_insts : r.insts ≡ []
 
 -- the rows with one row more
 abbrev pub with_name : Rows → List ℕ → Rows

@@ -2,7 +2,7 @@
 //! the bits.
 ghost use Rattle.std.specs.Prelude.{◌≡◌, ◌+◌, ◌<◌, ◌≤◌, ◌∷◌, [], ◌++◌, length, replicate, IfOk, OnOk, OnErr, vec_len};
 ghost use Rattle.std.specs.Vec.{vec_capacity};
-ghost use Rattle.design_rows.specs.Growth.{HasFeed, HasInstance, with_kind, with_name, with_place};
+ghost use Rattle.design_rows.specs.Growth.{HasFeed, HasInstance, IsEmpty, with_kind, with_name, with_place};
 ghost use Rattle.design_rows.specs.Sound.{AreRows};
 ghost use Rattle.design_rows.specs.View.{no_feed, place_name};
 
@@ -15,7 +15,7 @@ impl Rows {
     /// Rows of a design that has no instances yet.
     pub fn new(alloc: Global, cells: Cells, modules: List<Module>, models: List<Model>) -> Rows
         ensures rows { AreRows result }
-        ensures insts { result.insts ≡ [] }
+        ensures parts { IsEmpty cells modules models result }
     {
         Rows {
             cells,

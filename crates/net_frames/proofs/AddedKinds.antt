@@ -13,14 +13,14 @@ use Rattle.design_rows.specs.declared.tables.InstanceRow.{InstanceRow as Row}
 use Rattle.design_rows.specs.declared.tables.KindRow.{KindRow}
 use Rattle.design_rows.specs.declared.tables.PlaceRow.{PlaceRow}
 use Rattle.design_rows.specs.declared.tables.Rows.{Rows}
-use Rattle.design_rows.specs.Growth.{HaveSameKinds, with_kind}
+use Rattle.design_rows.specs.Growth.{HaveSameKinds, IsEmpty, with_kind}
 use Rattle.design_rows.specs.Growth as growth
 use Rattle.design_rows.specs.Sound.{AreRows}
 use Rattle.design_rows.specs.View.{no_kind}
 use Rattle.module_rows.specs.declared.plain.Netlist.{Netlist}
 use Rattle.net_instances.specs.declared.numbering.InstanceRow.{InstanceRow}
 use Rattle.net_places.specs.declared.plans.Plans.{Plans}
-use Rattle.net_frames.specs.Framed.{AreFramed, AreKinds, HasInstance, HasKindOf, HaveSameParts, IsEmpty, IsKind, IsKindOf, IsRowOf}
+use Rattle.net_frames.specs.Framed.{AreFramed, AreKinds, HasInstance, HasKindOf, HaveSameParts, IsKind, IsKindOf, IsRowOf}
 use Rattle.net_frames.specs.Places.{HasPlaces, IsPlaceOf, bits_in, with_parts}
 use Rattle.net_frames.proofs.Growing.{no_parts, place_kept, symbols_kept}
 use Rattle.net_frames.proofs.ListLemmas.{zip_joined, zip_kept}

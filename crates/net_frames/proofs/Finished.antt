@@ -22,7 +22,8 @@ use Rattle.net_places.specs.declared.plans.Plans.{Plans}
 use Rattle.net_places.specs.Plans.{ArePlans, IsOf}
 use Rattle.net_sizes.specs.declared.sizes.Counts.{Counts}
 use Rattle.net_frames.specs.Feeding.{AreFedBetween, IsBitFeed, IsFeed, feed_of}
-use Rattle.net_frames.specs.Framed.{AreFramed, HaveSameParts, IsEmpty, IsRowOf}
+use Rattle.design_rows.specs.Growth.{IsEmpty}
+use Rattle.net_frames.specs.Framed.{AreFramed, HaveSameParts, IsRowOf}
 use Rattle.net_frames.specs.Places.{with_parts}
 use Rattle.net_frames.proofs.AddedKinds.{framed_empty}
 use Rattle.net_frames.proofs.ListLemmas.{zip_kept}

@@ -1,8 +1,5 @@
 -- What instances are instances of, and the instances, among the rows of a design.
 use Rattle.std.specs.Prelude.{◌≡◌, ℕ, ◌+◌, List, ◌++◌, ◌∷◌, [], Some, slice_get}
-use Rattle.pw_defs.specs.declared.cells.Cells.{Cells}
-use Rattle.pw_defs.specs.declared.model.Model.{Model}
-use Rattle.pw_defs.specs.declared.netlist.Module.{Module}
 use Rattle.std.specs.List.{AllZip, slice_range}
 use Rattle.pw_defs.specs.declared.design.Body.{Body}
 use Rattle.design_rows.specs.declared.tables.InstanceRow.{InstanceRow as Row}
@@ -57,12 +54,3 @@ pub record HaveSameParts (old new : Rows) : Type 0 where
 pub record HasInstance (n : Netlist) (p : Plans) (old new : Rows) (instance : InstanceRow) : Type 0 where
   pub parts : HaveSameParts old new
   pub framed : (instances : List InstanceRow) → AreFramed n p instances old → AreFramed n p (instances ++ instance ∷ []) new
-
--- the rows have these parts, and no names, kinds and instances yet
-pub record IsEmpty (cells : Cells) (modules : List Module) (models : List Model) (r : Rows) : Type 0 where
-  pub same_cells : r.cells ≡ cells
-  pub same_modules : r.modules ≡ modules
-  pub same_models : r.models ≡ models
-  pub no_names : r.names ≡ []
-  pub no_kinds : r.kinds ≡ []
-  pub no_insts : r.insts ≡ []

@@ -8,7 +8,6 @@ ghost use Rattle.design_rows.specs.Sound.{AreRows};
 ghost use Rattle.design_rows.specs.View.{design_of};
 ghost use Rattle.list_defs.specs.Orders.{AreAllRising};
 ghost use Rattle.net_feeds.specs.Feeds.{AreFedSo};
-ghost use Rattle.net_frames.specs.Framed.{IsEmpty};
 ghost use Rattle.net_frames.specs.Places.{with_parts};
 ghost use Rattle.net_instances.specs.Instances.{AreInstances};
 ghost use Rattle.net_places.specs.Plans.{ArePlans, IsOf};
@@ -18,29 +17,10 @@ use crate::feeding::{feed_all, through_places};
 use crate::framing::add_instances;
 use design_rows::{Feed, Rows};
 use module_rows::Modules;
-use name_rows::Names;
 use net_instances::Instances;
 use net_places::Plans;
 use pw_defs::{Cells, List, Memory, Model, Module};
 use std::alloc::Global;
-
-/// Rows without names, instances and bits.
-fn no_rows(alloc: Global, cells: Cells, modules: List<Module>, models: List<Model>) -> Rows
-    ensures rows { AreRows result }
-    ensures parts { IsEmpty cells modules models result }
-{
-    Rows {
-        cells,
-        modules,
-        models,
-        names: Names::new(alloc),
-        kinds: List::new(alloc),
-        places: List::new(alloc),
-        insts: List::new(alloc),
-        children: List::new(alloc),
-        feeds: Vec::new(alloc),
-    }
-}
 
 /// Adds the spellings of all symbols as names.
 fn add_symbols(modules: &Modules, rows: &mut Rows) -> Result<(), Memory>
@@ -94,7 +74,7 @@ pub fn rows_of(
         → AreNamedInsts s → HasNames rows) }
 {
     let heads = modules.heads(alloc)?;
-    let mut rows = no_rows(alloc, cells, heads, models);
+    let mut rows = Rows::new(alloc, cells, heads, models);
     add_symbols(modules, &mut rows)?;
     add_instances(alloc, modules, plans, instances, &mut rows)?;
     let throughs = through_places(alloc, &rows)?;

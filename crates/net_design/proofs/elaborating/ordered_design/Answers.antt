@@ -7,8 +7,8 @@ use Rattle.design_rows.specs.View.{design_of}
 use Rattle.net_design.proofs.SameDesign.{same_design}
 use Rattle.net_design.proofs.elaborating.ordered_design.Goals as goal
 
-pub new-design-requires : goal.new-design-requires
-new-design-requires c =
+pub new-requires : goal.new-requires
+new-requires c =
     let old = c.args.rows in
     let new = c.order_children.new.self in
     let kept = c.in_ok-apart.ensures.kept in

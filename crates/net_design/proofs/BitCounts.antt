@@ -6,15 +6,12 @@ use Rattle.std.proofs.lemmas.List.Sums.{sum_by-take-le, sum_by_more}
 use Rattle.std.proofs.lemmas.Option.{get_or_from_slice_get, same_Some, slice_get-get_or, slice_get_within}
 use Rattle.pw_defs.specs.declared.design.Body.{Body}
 use Rattle.pw_defs.specs.declared.design.Body.TheVariants.{Module as ModuleBody}
-use Rattle.pw_defs.specs.declared.netlist.Inst.{Inst}
-use Rattle.pw_defs.specs.declared.netlist.Module.{Module}
-use Rattle.list_defs.specs.Members.{IsIn}
 use Rattle.list_defs.specs.Orders.{AreAllRising}
 use Rattle.list_defs.proofs.Few.{place_of_member}
 use Rattle.list_defs.proofs.Members.{IsIn-slice_get}
 use Rattle.list_defs.proofs.OneList.{one_list}
 use Rattle.design_defs.specs.Bits.{IsSpot, Spot, spot_cmp}
-use Rattle.design_defs.specs.Hierarchy.{IsOfModule, Sources, Way, body_at, type_of}
+use Rattle.design_defs.specs.Hierarchy.{Sources, Way, body_at}
 use Rattle.design_defs.specs.Inputs.{AreReadSources}
 use Rattle.design_defs.proofs.WalkEnds.{there_within}
 use Rattle.design_laws.proofs.LinkCases.{body_of_inst}

@@ -1,8 +1,6 @@
 -- The order in which children are found is no part of a design.
 use Rattle.std.proofs.Common.{◌≡◌, ℕ, zero, suc, List, length, map, refl, ap}
 use Rattle.std.specs.List.{range_with_len}
-use Rattle.pw_defs.specs.declared.design.Bit.{Bit}
-use Rattle.pw_defs.specs.declared.design.Instance.{Instance}
 use Rattle.design_defs.specs.Names.{joined}
 use Rattle.design_rows.specs.declared.tables.Rows.{Rows}
 use Rattle.design_rows.specs.Growth.{with_children}

@@ -1,6 +1,5 @@
 use Rattle.std.proofs.Common.{◌≡◌, sym, ap, ◌∙◌, subst}
 use Rattle.design_defs.specs.Sound.{IsSoundDesign}
-use Rattle.design_rows.specs.declared.tables.Rows.{Rows}
 use Rattle.design_rows.specs.Children.{HasNames}
 use Rattle.design_rows.specs.Growth.{AreOrdered}
 use Rattle.design_rows.specs.View.{design_of}

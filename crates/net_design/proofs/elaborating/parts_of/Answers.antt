@@ -1,7 +1,4 @@
-use Rattle.std.proofs.Common.{◌≡◌, refl}
-use Rattle.pw_defs.specs.declared.netlist.Module.{Module}
 use Rattle.list_defs.proofs.Members.{IsIn-slice_get}
-use Rattle.design_defs.specs.Hierarchy.{Sources}
 use Rattle.net_design.specs.Stages.{AreWired}
 use Rattle.net_design.proofs.BitCounts.{by_spots}
 use Rattle.net_outline.proofs.Passing.{passed_on}

@@ -1,4 +1,4 @@
-use Rattle.std.proofs.Common.{◌≡◌, List, Option, length, inr, refl, sym, ◌∙◌, subst, arith}
+use Rattle.std.proofs.Common.{◌≡◌, List, Option, inr, refl, sym, ◌∙◌, subst, arith}
 use Rattle.std.specs.Prelude.{MatchOption}
 use Rattle.pw_defs.specs.declared.faults.AtModule.{AtModule}
 use Rattle.pw_defs.specs.declared.faults.DesignFault.TheVariants.{N10}

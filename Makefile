@@ -8,7 +8,7 @@ EXAMPLE := examples/first-path
 # A job without findings, so that its run ends with exit status 0.
 CLEAN_JOB := flat -lib ../../$(EXAMPLE)/cells.lib -net ../../$(EXAMPLE)/ab.v -upf ../../$(EXAMPLE)/always_on.upf -top top
 
-.PHONY: demo test cases bench
+.PHONY: demo test cases bench hostile beside
 
 # The report of the example. Its one finding is exit status 1.
 demo: $(PROGRAM)
@@ -31,6 +31,17 @@ bench: $(PROGRAM) $(DIAGRAMS) $(PROBE)
 	python3 bench/diagrams.py $(DIAGRAMS)
 	python3 bench/designs.py $(DIAGRAMS)
 	python3 bench/colliding.py $(PROBE)
+
+# Texts that are made to be hard for the readers and for the making of a design.
+hostile: $(DIAGRAMS)
+	cd examples/synthesized && ../../$(DIAGRAMS) netlist cells.lib mapped.v soc | diff counts.txt -
+	python3 tests/hostile.py $(DIAGRAMS)
+	python3 bench/shapes.py $(DIAGRAMS)
+
+# Our readers beside OpenSTA, on made netlists and on what Yosys writes: both are packages of Debian.
+beside: $(DIAGRAMS)
+	python3 bench/readers.py $(DIAGRAMS)
+	python3 bench/synthesized.py $(DIAGRAMS)
 
 # Proves the program and all crates below it, and builds it.
 $(PROGRAM): $(SOURCES)

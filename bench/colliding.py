@@ -98,4 +98,5 @@ def main():
             print("| %s | %s | %.2f | %.0f |" % (kind, format(size, ","), seconds, memory), flush=True)
 
 
-main()
+if __name__ == "__main__":
+    main()

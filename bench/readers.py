@@ -1,16 +1,17 @@
 #!/usr/bin/env python3
 """Times the readers of libraries and netlists beside OpenSTA, on the same made files, and prints tables in Markdown.
 
-  bench/readers.py [BENCH] [--sizes N,N,..] [--cells N,N,..] [--keep FOLDER] [--seed S]
+  bench/readers.py [BENCH] [--sizes N,N,..] [--cells N,N,..] [--times N] [--keep FOLDER] [--seed S]
 
 BENCH is the built program `crates/bench/out/bench`, of which the words `library FILE`, `modules NETLIST` (a netlist is read) and
 `netlist LIBRARY NETLIST TOP` (it is read and elaborated) are run. Where it is left out or has no such words yet, that is said and
 OpenSTA is measured alone. OpenSTA is a package of Debian:
 `apt-get install opensta`; where its program `sta` isn't there, that is said too.
 
-Seconds are those of a processor that one run takes, in the program and in the system for it, and MB are its peak memory; a peak
-below that of this script, some 12 MB, isn't seen. The ratio is ours to OpenSTA's. The exponent says how time grows between the
-smallest and the greatest size, without what an empty run of OpenSTA takes: 1 is linear.
+Seconds are those of a processor that one run takes, in the program and in the system for it, then those on the clock; MB are its
+peak memory, and a peak below that of this script, some 12 MB, isn't seen. The ratio of time is that of ours to OpenSTA's seconds of a
+processor. The exponent says how these grow between the smallest and the greatest size, without what an empty run of OpenSTA takes:
+1 is linear. With --times N each run is the one of N that took the fewest seconds.
 
 The whole with its default sizes takes some half a minute for OpenSTA alone, and 300 MB of disk.
 """
@@ -20,6 +21,7 @@ import os
 import shutil
 import sys
 import tempfile
+import time
 
 import make_library
 import make_netlist
@@ -36,6 +38,7 @@ class Run:
 
     def __init__(self, words, folder):
         out, errors = (os.path.join(folder, name) for name in ("run.out", "run.err"))
+        begun = time.monotonic()
         child = os.fork()
         if child == 0:
             try:
@@ -45,7 +48,7 @@ class Run:
             finally:
                 os._exit(127)
         _, status, used = os.wait4(child, 0)
-        self.seconds = used.ru_utime + used.ru_stime
+        self.seconds, self.clock = used.ru_utime + used.ru_stime, time.monotonic() - begun
         # Linux counts in units of 1,024 bytes
         self.megabytes = used.ru_maxrss * 1024 / 1e6
         self.status = os.waitstatus_to_exitcode(status)
@@ -55,11 +58,17 @@ class Run:
             self.complaint = f.read().strip()
 
 
-class Files:
-    """The folder of the made files."""
+def quickest(times, run):
+    """The run of so many that took the fewest seconds of a processor, or nothing where there is none."""
+    runs = [run() for _ in range(times)]
+    return None if None in runs else min(runs, key=lambda done: done.seconds)
 
-    def __init__(self, folder, seed):
-        self.folder, self.seed = folder, seed
+
+class Files:
+    """The folder of the made files, and how often each is read."""
+
+    def __init__(self, folder, seed, times=1):
+        self.folder, self.seed, self.times = folder, seed, times
 
     def path(self, name):
         return os.path.join(self.folder, name)
@@ -84,8 +93,9 @@ class Files:
 
 
 def sta_run(files, lines):
-    """One run of OpenSTA on the lines of a script. Its answers to them are looked at for faults, since it goes on behind them."""
-    done = Run(["sta", "-no_splash", "-no_init", "-exit", files.script(lines)], files.folder)
+    """A run of OpenSTA on the lines of a script. Its answers to them are looked at for faults, since it goes on behind them."""
+    words = ["sta", "-no_splash", "-no_init", "-exit", files.script(lines)]
+    done = quickest(files.times, lambda: Run(words, files.folder))
     if done.status != 0 or "rror" in done.printed + done.complaint:
         sys.exit("OpenSTA fails: %s %s" % (done.printed[:400], done.complaint[:400]))
     return done
@@ -106,11 +116,11 @@ def sta_netlist(files, library, netlist):
 
 
 def own_run(bench, files, words):
-    """One run of our program, or nothing where it has no such words yet."""
-    done = Run([bench] + words, files.folder)
-    if done.status == 0 and not done.printed.startswith("usage"):
-        return done
-    return None
+    """A run of our program, or nothing where it has no such words or refuses the text."""
+    def run():
+        done = Run([bench] + words, files.folder)
+        return done if done.status == 0 else None
+    return quickest(files.times, run)
 
 
 def has_words(bench, files):
@@ -128,7 +138,7 @@ def has_words(bench, files):
 
 
 def figures(done):
-    return "%.2f | %.0f" % (done.seconds, done.megabytes) if done else "- | -"
+    return "%.2f | %.2f | %.0f" % (done.seconds, done.clock, done.megabytes) if done else "- | - | -"
 
 
 def ratio(own, theirs):
@@ -138,8 +148,8 @@ def ratio(own, theirs):
 
 
 def head(size):
-    print("| %s | MB of file | OpenSTA s | MB | ours s | MB | ratio of time | of memory | what ours prints |" % size)
-    print("|--:|--:|--:|--:|--:|--:|--:|--:|:--|", flush=True)
+    print("| %s | MB of file | OpenSTA s | on the clock | MB | ours s | on the clock | MB | ratio of time | of memory | what ours prints |" % size)
+    print("|--:|--:|--:|--:|--:|--:|--:|--:|--:|--:|:--|", flush=True)
 
 
 def row(size, path, theirs, own):
@@ -215,6 +225,7 @@ def options():
     words.add_argument("bench", nargs="?")
     words.add_argument("--sizes", type=numbers, default=SIZES)
     words.add_argument("--cells", type=numbers, default=CELLS)
+    words.add_argument("--times", type=int, default=1)
     words.add_argument("--keep", help="a folder for the made files")
     words.add_argument("--seed", type=int, default=1)
     return words.parse_args()
@@ -224,7 +235,7 @@ def main():
     given = options()
     folder = given.keep or tempfile.mkdtemp(prefix="upfsign-readers-")
     os.makedirs(folder, exist_ok=True)
-    files = Files(folder, given.seed)
+    files = Files(folder, given.seed, given.times)
     try:
         has_sta = shutil.which("sta") is not None
         if not has_sta:

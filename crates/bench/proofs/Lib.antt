@@ -1,1 +1,2 @@
+pub mod NoModels
 pub mod RowLemmas

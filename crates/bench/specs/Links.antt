@@ -2,8 +2,8 @@
 use Rattle.std.specs.Prelude.{ℕ, ◌+◌, ◌*◌, ◌≤◌, Bool, not, ◌&&◌, ◌||◌}
 use Rattle.pw_defs.specs.declared.values.Value.{Value}
 use Rattle.pw_defs.specs.Values.{is_on}
-use Rattle.bench.specs.declared.Task.{Task}
-use Rattle.bench.specs.declared.Task.TheVariants.{Joined, Gathered, Modes, Random}
+use Rattle.bench.specs.declared.sets.Task.{Task}
+use Rattle.bench.specs.declared.sets.Task.TheVariants.{Joined, Gathered, Modes, Random}
 use Rattle.bench.specs.declared.joined.Link.{Link}
 use Rattle.bench.specs.declared.joined.Link.TheVariants.{Beside, Behind, Chain}
 

@@ -1,7 +1,8 @@
 //! Large designs in rows, made and read whole.
-ghost use Rattle.std.specs.Prelude.{IfOk, IfSome};
+ghost use Rattle.std.specs.Prelude.{◌≤◌, IfSome};
 ghost use Rattle.design_rows.specs.Sound.{AreRows};
 
+use crate::Told;
 use design_rows::Rows;
 use large_designs::{flat, nested, read_all};
 use std::alloc::{AllocError, Global};
@@ -9,34 +10,38 @@ use std::alloc::{AllocError, Global};
 /// How many cells a block has.
 const BLOCK_CELLS: u32 = 300;
 
-/// What is counted of a large design, as text, which is `None` where the words name none.
-pub fn counts_of(alloc: Global, kind: &str, size: &str) -> Result<Option<String>, AllocError> {
-    let Ok(size) = size.parse::<u32>() else {
+/// What is counted of a flat design of so many cells, which is `None` where the word is no such number.
+pub fn flat_told(alloc: Global, size: &str) -> Result<Option<Told>, AllocError> {
+    let Some(size) = size_of(size) else {
         return Ok(None);
     };
-    let Some(rows) = rows_of(alloc, kind, size)? else {
-        return Ok(None);
-    };
-    let counts = read_all(alloc, &rows)?;
-    let (insts, bits, on, names) = (counts.insts, counts.bits, counts.on, counts.names);
-    let text = format!(in alloc; "instances {insts} bits {bits} fed {on} bytes of names {names}")?;
-    Ok(Some(text))
+    let rows = flat(alloc, size)?;
+    Ok(Some(counts_told(alloc, &rows)?))
 }
 
-/// The rows of a large design, which is `None` where the words name none.
-fn rows_of(alloc: Global, kind: &str, size: u32) -> Result<Option<Rows>, AllocError>
-    ensures { IfOk result (λ found. IfSome found AreRows) }
-{
-    if size > 1_000_000 {
+/// What is counted of so many instances of a block, which is `None` where the word is no such number.
+pub fn nested_told(alloc: Global, size: &str) -> Result<Option<Told>, AllocError> {
+    let Some(size) = size_of(size) else {
         return Ok(None);
-    }
-    if kind == "flat" {
-        let rows = flat(alloc, size)?;
-        return Ok(Some(rows));
-    }
-    if kind == "nested" {
-        let rows = nested(alloc, size, BLOCK_CELLS)?;
-        return Ok(Some(rows));
-    }
-    Ok(None)
+    };
+    let rows = nested(alloc, size, BLOCK_CELLS)?;
+    Ok(Some(counts_told(alloc, &rows)?))
+}
+
+/// How many are asked for.
+fn size_of(size: &str) -> Option<u32>
+    ensures { IfSome result (λ size. size ≤ 1000000) }
+{
+    let size = size.parse::<u32>().ok()?;
+    if size > 1_000_000 { None } else { Some(size) }
+}
+
+/// What is counted of a design.
+fn counts_told(alloc: Global, rows: &Rows) -> Result<Told, AllocError>
+    requires { AreRows rows.now }
+{
+    let counts = read_all(alloc, rows)?;
+    let (insts, bits, on, names) = (counts.insts, counts.bits, counts.on, counts.names);
+    let text = format!(in alloc; "instances {insts} bits {bits} fed {on} bytes of names {names}")?;
+    Ok(Told::Counts(text))
 }

@@ -9,8 +9,9 @@ Each case is one line to `probe`, and its answer one line. A text is the word `x
     read_netlist TEXT
     elaborate TOP [library TEXT].. [netlist TEXT].. [model TEXT]..
 
-tests/tables.py says what the answers are. Where a table leaves the things behind `ok N` out, they aren't compared. A call that
-`probe` answers by `unknown` isn't there: that is said, and its cases aren't tried. The exit status is 1 only where an answer is
+tests/tables.py says what the answers are. Where a table leaves the things behind `ok N` out, they aren't compared. Behind the module of
+a design's fault `probe` gives the number of the netlist that has it, 0 at line 0. A call that `probe` answers by `unknown` isn't
+there, or doesn't take such texts: each such case is printed and counted as not tried. The exit status is 1 only where an answer is
 another one.
 
 Each short library and netlist that is readable is also cut behind each of its bytes. All but the last token of such a front go on to
@@ -67,6 +68,15 @@ def is_right(wanted, got):
     return got == wanted
 
 
+def wanted_answer(folder, case):
+    """The answer of a case; behind that of a design's fault stands the netlist of its module."""
+    words = case.answer.split(" ")
+    if folder != "designs" or words[0] == "ok":
+        return case.answer
+    netlist = tables.module_lines(case)[int(words[3])][0] if words[1] != "0" else 0
+    return "%s %d" % (case.answer, netlist)
+
+
 def shortened(text):
     return text if len(text) <= 200 else text[:200] + " .."
 
@@ -104,12 +114,16 @@ def folder_result(probe, folder, only, cells):
     got = answers(probe, [call_of(folder, case, cells) for case in cases])
     if len(got) != len(cases):
         sys.exit("%s gave %d answers to %d calls of `%s`" % (probe, len(got), len(cases), CALLS[folder]))
-    wrong = [(case, is_) for case, is_ in zip(cases, got) if not is_right(case.answer, is_)]
+    left = [case for case, is_ in zip(cases, got) if is_ == "unknown"]
+    wrong = [(case, is_) for case, is_ in zip(cases, got) if is_ != "unknown" and not is_right(wanted_answer(folder, case), is_)]
+    for case in left:
+        print("%s\n  isn't tried: the answer is `unknown`" % case)
     for case, is_ in wrong:
-        print("%s\n  answers `%s`\n  wanted  `%s`" % (case, shortened(is_), shortened(case.answer)))
+        print("%s\n  answers `%s`\n  wanted  `%s`" % (case, shortened(is_), shortened(wanted_answer(folder, case))))
+    passed = len(cases) - len(left) - len(wrong)
     fronts_passed, fronts_failed = cut_result(probe, folder, cases)
-    print("tests/%s: %d cases and %d fronts passed" % (folder, len(cases) - len(wrong), fronts_passed))
-    return len(cases) - len(wrong) + fronts_passed, len(wrong) + fronts_failed, 0
+    print("tests/%s: %d cases and %d fronts passed" % (folder, passed, fronts_passed))
+    return passed + fronts_passed, len(wrong) + fronts_failed, len(left)
 
 
 def main():

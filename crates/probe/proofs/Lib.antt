@@ -1,2 +1,3 @@
 pub mod EvenTables
 pub mod Fitting
+pub mod NoModels

@@ -17,10 +17,18 @@ pub fn library_text(alloc: Global, words: &[&str]) -> Result<String, AllocError>
     for (number, text) in texts.iter().enumerate() {
         match with_library(alloc, &all, text.as_slice()) {
             Ok(cells) => all = cells,
-            Err(fault) => return fault_text(alloc, &fault, number, texts.len()),
+            Err(fault) => return fault_text(alloc, &fault, number_among(number, texts.len())),
         }
     }
     cells_text(alloc, &all)
+}
+
+/// The number of a text where there are several.
+fn number_among(number: usize, count: usize) -> Option<u32> {
+    match u32::try_from(number) {
+        Ok(number) if count > 1 => Some(number),
+        _ => None,
+    }
 }
 
 /// The cells so far with those of one more library.
@@ -29,22 +37,18 @@ fn with_library(alloc: Global, all: &Cells, text: &[u8]) -> Result<Cells, LibFau
     join_cells(alloc, all, &more)
 }
 
-fn fault_text(
+/// A fault of a library by its code: the line, the name, and the number of the library where there is one.
+pub fn fault_text(
     alloc: Global,
     fault: &LibFault,
-    number: usize,
-    count: usize,
+    number: Option<u32>,
 ) -> Result<String, AllocError> {
-    let mut text = match fault {
-        LibFault::L1(at) => refused(alloc, "L1", at)?,
-        LibFault::L2(at) => refused(alloc, "L2", at)?,
-        LibFault::L3(at) => refused(alloc, "L3", at)?,
-        LibFault::Memory => return answer_text(alloc, true, "memory"),
-    };
-    if count > 1 {
-        text.push_str(format!(in alloc; " {number}")?.as_str())?;
+    match fault {
+        LibFault::L1(at) => refused(alloc, "L1", at, number),
+        LibFault::L2(at) => refused(alloc, "L2", at, number),
+        LibFault::L3(at) => refused(alloc, "L3", at, number),
+        LibFault::Memory => answer_text(alloc, true, "memory"),
     }
-    Ok(text)
 }
 
 /// How many cells there are, and each of them.

@@ -12,10 +12,14 @@
 //! - `read_library TEXT ..` answers the cells of libraries, each joined to those before it, and `read_netlist TEXT` the modules of a
 //!   netlist, or their first fault. A text is `x` and two hexadecimal digits for each byte; `tests/tables.py` says how cells,
 //!   modules and faults are written.
+//! - `elaborate TOP [library TEXT].. [netlist TEXT]..` answers how many instances and bits the design of libraries
+//!   and netlists has below the top of this name; or the first fault of the texts, with the number of the library or netlist;
+//!   or the first fault of the design, with the numbers of its module and of the netlist of that.
 //! - `name NAME` answers the number of the name, which it has from its first such line on.
 #![tactic(auto)]
 
 mod conditions;
+mod designs;
 mod libraries;
 mod names;
 mod netlists;
@@ -56,6 +60,7 @@ fn answer(alloc: Global, session: &mut Session, words: &[&str]) -> Result<String
         "name" => names::number_text(alloc, &mut session.names, arguments),
         "read_library" => libraries::library_text(alloc, arguments),
         "read_netlist" => netlists::netlist_text(alloc, arguments),
+        "elaborate" => designs::design_text(alloc, arguments),
         "legal" => states::legal_text(alloc, &session.supplies, arguments),
         "table" => {
             session.table = tables::table_of(alloc, arguments)?;

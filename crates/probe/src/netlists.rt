@@ -1,4 +1,6 @@
 //! The modules of a netlist as text.
+ghost use Rattle.std.specs.Prelude.{◌<◌, length};
+ghost use Rattle.module_rows.specs.Reads.{module_at};
 
 use crate::libraries::arrow;
 use crate::texts::{put_name, refused, text_of};
@@ -18,11 +20,22 @@ pub fn netlist_text(alloc: Global, words: &[&str]) -> Result<String, AllocError>
     };
     match read_modules(alloc, text.as_slice()) {
         Ok(modules) => modules_text(alloc, &modules),
-        Err(NetFault::N1(at)) => refused(alloc, "N1", &at),
-        Err(NetFault::N2(at)) => refused(alloc, "N2", &at),
-        Err(NetFault::N3(at)) => refused(alloc, "N3", &at),
-        Err(NetFault::N4(at)) => refused(alloc, "N4", &at),
-        Err(NetFault::Memory) => answer_text(alloc, true, "memory"),
+        Err(fault) => fault_text(alloc, &fault, None),
+    }
+}
+
+/// A fault of a netlist's text by its code: the line, the name, and the number of the netlist where there is one.
+pub fn fault_text(
+    alloc: Global,
+    fault: &NetFault,
+    number: Option<u32>,
+) -> Result<String, AllocError> {
+    match fault {
+        NetFault::N1(at) => refused(alloc, "N1", at, number),
+        NetFault::N2(at) => refused(alloc, "N2", at, number),
+        NetFault::N3(at) => refused(alloc, "N3", at, number),
+        NetFault::N4(at) => refused(alloc, "N4", at, number),
+        NetFault::Memory => answer_text(alloc, true, "memory"),
     }
 }
 
@@ -43,10 +56,9 @@ fn put_module(
     out: &mut String,
     modules: &Modules,
     holder: u32,
-) -> Result<(), AllocError> {
-    if holder >= modules.len() {
-        return Ok(());
-    }
+) -> Result<(), AllocError>
+    requires { holder < length modules.now.modules }
+{
     let head = modules.module(holder);
     let line = head.line;
     put_symbol(alloc, out, modules, head.name)?;
@@ -77,12 +89,10 @@ fn put_lines(
     out: &mut String,
     modules: &Modules,
     holder: u32,
-) -> Result<(), AllocError> {
-    if holder >= modules.len() {
-        return Ok(());
-    }
-    let head = modules.module(holder);
-    for number in 0..head.assigns {
+) -> Result<(), AllocError>
+    requires { holder < length modules.now.modules }
+{
+    for number in 0..modules.module(holder).assigns {
         let assign = modules.assign(holder, number);
         let line = assign.line;
         out.push_str("assign:")?;
@@ -91,26 +101,40 @@ fn put_lines(
         put_expr(alloc, out, modules, assign.right)?;
         out.push_str(format!(in alloc; "@{line};")?.as_str())?;
     }
-    for number in 0..head.insts {
-        let inst = modules.inst(holder, number);
-        let line = inst.line;
-        put_symbol(alloc, out, modules, inst.kind)?;
-        out.push_str(":")?;
-        put_symbol(alloc, out, modules, inst.name)?;
-        out.push_str("(")?;
-        for place in 0..inst.conns {
-            let conn = modules.conn(holder, number, place);
-            out.push_str(if place > 0 { ",." } else { "." })?;
-            put_symbol(alloc, out, modules, conn.port)?;
-            out.push_str("(")?;
-            if let Some(expr) = conn.expr {
-                put_expr(alloc, out, modules, expr)?;
-            }
-            out.push_str(")")?;
-        }
-        out.push_str(format!(in alloc; ")@{line};")?.as_str())?;
+    for number in 0..modules.module(holder).insts {
+        put_inst(alloc, out, modules, holder, number)?;
     }
     Ok(())
+}
+
+/// Appends an instance of a module.
+fn put_inst(
+    alloc: Global,
+    out: &mut String,
+    modules: &Modules,
+    holder: u32,
+    number: u32,
+) -> Result<(), AllocError>
+    requires holder { holder < length modules.now.modules }
+    requires inst { number < length (module_at modules.now holder).insts }
+{
+    let inst = modules.inst(holder, number);
+    let line = inst.line;
+    put_symbol(alloc, out, modules, inst.kind)?;
+    out.push_str(":")?;
+    put_symbol(alloc, out, modules, inst.name)?;
+    out.push_str("(")?;
+    for place in 0..inst.conns {
+        let conn = modules.conn(holder, number, place);
+        out.push_str(if place > 0 { ",." } else { "." })?;
+        put_symbol(alloc, out, modules, conn.port)?;
+        out.push_str("(")?;
+        if let Some(expr) = conn.expr {
+            put_expr(alloc, out, modules, expr)?;
+        }
+        out.push_str(")")?;
+    }
+    out.push_str(format!(in alloc; ")@{line};")?.as_str())
 }
 
 /// Appends the name of a symbol.

@@ -39,10 +39,18 @@ pub fn put_name(alloc: Global, out: &mut String, name: &[u8]) -> Result<(), Allo
     Ok(())
 }
 
-/// A refusal by its code: the line and the name.
-pub fn refused(alloc: Global, code: &str, at: &At) -> Result<String, AllocError> {
+/// A refusal by its code: the line, the name, and the number of the text where there is one.
+pub fn refused(
+    alloc: Global,
+    code: &str,
+    at: &At,
+    text: Option<u32>,
+) -> Result<String, AllocError> {
     let line = at.line;
-    let mut text = format!(in alloc; "{code} {line} ")?;
-    put_name(alloc, &mut text, at.name.as_slice())?;
-    Ok(text)
+    let mut out = format!(in alloc; "{code} {line} ")?;
+    put_name(alloc, &mut out, at.name.as_slice())?;
+    if let Some(number) = text {
+        out.push_str(format!(in alloc; " {number}")?.as_str())?;
+    }
+    Ok(out)
 }

@@ -6,12 +6,13 @@ use Rattle.std.proofs.lemmas.List.{length_push}
 use Rattle.std.proofs.lemmas.Option.{slice_get_within}
 use Rattle.list_defs.specs.Members.{all_differ, place_of, same_name}
 use Rattle.list_defs.proofs.NameLemmas.{all_differ-push, is_some-place_of, place_of-own, slice_get-place_of}
+use Rattle.name_index.specs.declared.table.Link.{Link}
 use Rattle.name_index.specs.declared.table.Table.{Table}
-use Rattle.name_index.specs.Tables.{Finds, IsSameBut, IsSmooth, IsTable, KeepsNumbers, Leads, crowded_number, hash_of, head_of}
+use Rattle.name_index.specs.Tables.{Finds, IsSameBut, IsSmooth, IsTable, KeepsNumbers, Leads, crowded_number, hash_of, head_of, nowhere, tag_of}
 
 -- where neither the links nor the tree lead to a name, it isn't there
 pub look_up-none : (names : List (List ℕ)) (name : List ℕ) (t : Table) (result : Option ℕ) → IsTable names t → all_differ same_name names ≡ true
-    → ((n : ℕ) → Leads t.links.items (head_of t name) n → slice_get names n ≢ Some name)
+    → ((n : ℕ) → Leads (tag_of name) t.links.items (head_of t name) n → slice_get names n ≢ Some name)
     → IfSome result (λ n. slice_get names n ≡ Some name)
     → IfNone result ((n : ℕ) → crowded_number t name ≡ Some n → slice_get names n ≢ Some name)
     → result ≡ place_of (same_name name) names
@@ -32,15 +33,15 @@ one_place names n m name differ here there =
 
 pub smooth_same : (name : List ℕ) (old new : Table) → IsSameBut name old new → IsSmooth old → IsSmooth new
 smooth_same name old new same smooth = record {
-  heads = λ p. omega (arith, ap length same.links, ap (λ hs. get_or hs p 0) same.heads, smooth.heads p);
-  links = λ m. omega (arith, ap (λ ls. get_or ls m 0) same.links, smooth.links m);
+  heads = λ p. omega (arith, ap length same.links, ap (λ hs. (get_or hs p nowhere).behind) same.heads, smooth.heads p);
+  links = λ m. omega (arith, ap (λ ls. (get_or ls m nowhere).behind) same.links, smooth.links m);
 }
 
 pub found_same : (name : List ℕ) (old new : Table) → IsSameBut name old new → KeepsNumbers old new name
 found_same name old new same = λ other n apart found.
-    let head : head_of old other ≡ head_of new other = ap (λ hs. get_or hs (hash_of other % length hs) 0) (sym same.heads) in
-    let P : ℕ → Type 0 = λ h. Leads new.links.items h n in
-    let Q : List ℕ → Type 0 = λ ls. Leads ls (head_of old other) n in
+    let head : head_of old other ≡ head_of new other = ap (λ hs. get_or hs (hash_of other % length hs) nowhere) (sym same.heads) in
+    let P : Link → Type 0 = λ h. Leads (tag_of other) new.links.items h n in
+    let Q : List Link → Type 0 = λ ls. Leads (tag_of other) ls (head_of old other) n in
     elim found [
       | inl leads ↦ inl (subst P head (subst Q (sym same.links) leads))
       | inr there ↦ inr (same.others other apart ∙ there)

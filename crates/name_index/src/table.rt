@@ -1,8 +1,8 @@
 //! The table behind an index of names: it tells the number of a name from the name's bytes.
-ghost use Rattle.std.specs.Prelude.{◌≡◌, ◌≢◌, ℕ, ◌+◌, ◌%◌, ◌<◌, ◌↔◌, [], ◌∷◌, ◌++◌, List, Some, None, true, length, slice_get, slice_index, IfOk, OnOk, OnErr, IfSome, IfNone, IsTrue, vec_len};
+ghost use Rattle.std.specs.Prelude.{◌≡◌, ◌≢◌, ℕ, ◌+◌, ◌%◌, ◌<◌, ◌↔◌, [], ◌∷◌, ◌++◌, List, Some, None, true, length, get_or, slice_get, IfOk, OnOk, OnErr, IfSome, IfNone, IsTrue, vec_len};
 ghost use Rattle.std.specs.Vec.{vec_capacity};
 ghost use Rattle.list_defs.specs.Members.{all_differ, place_of, same_name};
-ghost use Rattle.name_index.specs.Tables.{Finds, IsLinked, IsSameBut, IsSmooth, IsTable, KeepsNumbers, Leads, crowded_number, hash_of, head_of, number_in};
+ghost use Rattle.name_index.specs.Tables.{Finds, IsLinked, IsSameBut, IsSmooth, IsTable, KeepsNumbers, Leads, crowded_number, hash_of, head_of, nowhere, number_in, tag_of};
 
 use name_rows::Names;
 use std::alloc::{AllocError, Global};
@@ -12,13 +12,25 @@ use std::hash::{FoldHasher, Hasher};
 /// How many names of one place are linked to each other before the tree takes further ones.
 const MOST_LINKED: usize = 16;
 
+/// The link to no name.
+const NOWHERE: Link = Link { behind: 0, tag: 0 };
+
+/// A link to a name, with a part of the name's hash, so that most other names are passed without a look at their bytes.
+#[derive(Clone, Copy)]
+pub struct Link {
+    /// One more than the number of the name, or 0 for no name.
+    behind: u32,
+    /// The lower half of the name's hash.
+    tag: u32,
+}
+
 /// The number of a name is found along the links from the head of its place on, or in the tree of crowded names.
 #[derive(Drop)]
 pub struct Table {
-    /// For each place one more than the number of the name that was linked there last, or 0.
-    heads: Vec<u32>,
+    /// For each place the link to the name that was linked there last.
+    heads: Vec<Link>,
     /// For each name the head that its place had before.
-    links: Vec<u32>,
+    links: Vec<Link>,
     /// The numbers of the names that came to a full place.
     crowded: BTreeMap<Vec<u8>, u32>,
 }
@@ -111,7 +123,7 @@ fn bare(alloc: Global, places: usize) -> Result<Table, AllocError>
     ensures places { IfOk result (λ table. length table.heads.items ≡ places) }
 {
     Ok(Table {
-        heads: vec![in alloc; 0; places]?,
+        heads: vec![in alloc; NOWHERE; places]?,
         links: Vec::with_capacity(alloc, places)?,
         crowded: BTreeMap::new(alloc),
     })
@@ -135,13 +147,13 @@ fn prepare(alloc: Global, table: &mut Table, name: &[u8], hash: u64) -> Result<(
 
 /// Whether the place of a hash has as many names as are linked.
 fn is_full(table: &Table, hash: u64) -> bool {
-    let mut head = head(table, hash);
+    let mut link = head(table, hash);
     for _ in 0..MOST_LINKED {
-        if head == 0 {
+        if link.behind == 0 {
             return false;
         }
-        match table.links.get(head as usize - 1) {
-            Some(link) => head = *link,
+        match table.links.get(link.behind as usize - 1) {
+            Some(next) => link = *next,
             None => return false,
         }
     }
@@ -177,24 +189,27 @@ fn commit(table: &mut Table, name: &[u8], hash: u64)
 {
     let number = table.links.len() as u32;
     if has_number(&table.crowded, name, number) {
-        table.links.push_reserved(0);
+        table.links.push_reserved(NOWHERE);
         return;
     }
-    link(table, name, hash);
+    add_link(table, name, hash);
 }
 
 /// Puts the next number in front of those that are linked at the place of a name.
-fn link(table: &mut Table, name: &[u8], hash: u64)
+fn add_link(table: &mut Table, name: &[u8], hash: u64)
     requires hash { hash ≡ hash_of name.now }
     requires few { length table.old.links.items < 4294967295 }
     requires room { vec_len table.old.links < vec_capacity table.old.links }
     requires places { 0 < length table.old.heads.items }
     ensures { IsLinked table.old table.new name.now }
 {
-    let number = table.links.len() as u32;
+    let behind = table.links.len() as u32 + 1;
     let head = head(table, hash);
     let place = hash as usize % table.heads.len();
-    table.heads[place] = number + 1;
+    table.heads[place] = Link {
+        behind,
+        tag: tag(hash),
+    };
     table.links.push_reserved(head);
 }
 
@@ -213,16 +228,17 @@ fn linked_number(table: &Table, names: &Names, name: &[u8], hash: u64) -> Option
     requires table { IsTable names.now table.now }
     requires hash { hash ≡ hash_of name.now }
     ensures some { IfSome result (λ n. slice_get names.now n ≡ Some name.now) }
-    ensures none { IfNone result ((n : ℕ) → Leads table.now.links.items (head_of table.now name.now) n → slice_get names.now n ≢ Some name.now) }
+    ensures none { IfNone result ((n : ℕ) → Leads (tag_of name.now) table.now.links.items (head_of table.now name.now) n → slice_get names.now n ≢ Some name.now) }
 {
     let links = table.links.as_slice();
-    let mut head = head(table, hash);
-    while head > 0 {
-        let number = head - 1;
-        if is_name(names, number, name) {
+    let tag = tag(hash);
+    let mut link = head(table, hash);
+    while link.behind > 0 {
+        let number = link.behind - 1;
+        if link.tag == tag && is_name(names, number, name) {
             return Some(number);
         }
-        head = links[number as usize];
+        link = links[number as usize];
     }
     None
 }
@@ -247,14 +263,21 @@ fn is_name(names: &Names, place: u32, name: &[u8]) -> bool
 }
 
 /// The head of the place of a hash.
-fn head(table: &Table, hash: u64) -> u32
-    ensures { result ≡ slice_index table.now.heads.items (hash % length table.now.heads.items) }
+fn head(table: &Table, hash: u64) -> Link
+    ensures { result ≡ get_or table.now.heads.items (hash % length table.now.heads.items) nowhere }
 {
     let places = table.heads.len();
     if places == 0 {
-        return 0;
+        return NOWHERE;
     }
     table.heads[hash as usize % places]
+}
+
+/// The part of a hash that stands beside a link.
+fn tag(hash: u64) -> u32
+    ensures { result ≡ hash % 4294967296 }
+{
+    (hash % 4294967296) as u32
 }
 
 /// The hash of a name, which the calls above take beside it, so that it is computed once.

@@ -1,5 +1,5 @@
 -- Things in a row, as a loop reads them.
-use Rattle.std.proofs.Common.{◌≡◌, ℕ, ◌+◌, ◌-◌, ◌<◌, Bool, true, false, List, [], ◌∷◌, ◌++◌, length, map, Result, Ok, Err, refl, sym, ap, ◌∙◌, arith}
+use Rattle.std.proofs.Common.{◌≡◌, ℕ, ◌-◌, ◌<◌, Bool, true, false, List, [], ◌∷◌, ◌++◌, length, map, Result, Ok, Err, refl, sym, ap, ◌∙◌, arith}
 use Rattle.text_defs.specs.Grammar.{Reading, read, next, passes, and_then}
 use Rattle.text_defs.specs.Phrases.{many}
 use Rattle.text_defs.specs.Tokens.{Token, of_class}

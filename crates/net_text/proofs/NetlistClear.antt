@@ -230,7 +230,7 @@ clear-concatenation : (inner : NetlistGrammar Lined) {starts follows : Classes} 
     → IsClearNetlist (concatenation inner) (Some LeftBrace ∷ []) follows
 clear-concatenation inner one =
     clear-then a_left_brace
-    (λ _. clear-then (clear-comma_list {follows = Some RightBrace ∷ []} (clear-fewer one (inl refl, (inr (inr (inr (inl refl))), tt))) refl)
+    (λ _. clear-then (clear-comma_list {follows = Some RightBrace ∷ []} (clear-then (clear-fewer one (inl refl, (inr (inr (inr (inl refl))), tt))) (λ _. clear-gives)) refl)
     (λ _. clear-then a_right_brace (λ _. clear-gives)))
 
 -- by induction on the depth

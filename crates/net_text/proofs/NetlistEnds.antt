@@ -7,7 +7,7 @@ use Rattle.text_defs.proofs.ClearPhrases.{can_end-many}
 use Rattle.text_defs.proofs.ClearTokens.{can_end-one_of}
 use Rattle.net_text.specs.NetlistTokens.{NetlistClass, Module, Endmodule, Input, Wire, Assign, Name, Number, Open, Shut, LeftBracket, RightBracket, LeftBrace, RightBrace, Comma, Dot, Colon, Semicolon, Equals}
 use Rattle.net_text.specs.NetlistClasses.{is_module, is_endmodule, is_wire, is_assign, is_name, is_number, is_constant, is_open, is_shut, is_left_bracket, is_right_bracket, is_left_brace, is_right_brace, is_comma, is_dot, is_colon, is_semicolon, is_equals, begins_item}
-use Rattle.net_text.specs.NetlistGrammar.{Lined, NetlistGrammar, most, comma_list, name, number, range_option, shape, further_port, shaped_header, names_header, header, selected_name, nested, operand, expr, connection, directions_item, wires_item, assignment, assigns_item, instance_item, item, module_words, netlist}
+use Rattle.net_text.specs.NetlistGrammar.{Lined, NetlistGrammar, most, comma_list, name, number, range_option, shape, further_port, shaped_header, names_header, header, selected_name, nested, unlined, operand, expr, connection, directions_item, wires_item, assignment, assigns_item, instance_item, item, module_words, netlist}
 
 a_module : CanEnd (one_of is_module)
 a_module = can_end-one_of is_module Module refl
@@ -125,7 +125,7 @@ ends-nested : (alone : NetlistGrammar Lined) (depth : ℕ) → CanEnd alone → 
 unfolding CanEnd nested
 ends-nested alone zero c = c
 ends-nested alone (suc depth) c =
-    ((a_left_brace, λ _. (ends-comma_list (nested alone depth) (ends-nested alone depth c), λ _. (a_right_brace, λ _. tt))), c)
+    ((a_left_brace, λ _. (ends-comma_list (unlined (nested alone depth)) (ends-nested alone depth c, λ _. tt), λ _. (a_right_brace, λ _. tt))), c)
 
 ends-expr : CanEnd expr
 ends-expr = ends-nested operand 100 ends-operand

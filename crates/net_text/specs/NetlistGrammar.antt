@@ -1,5 +1,5 @@
 -- The grammar of netlists: modules and their items, as the text has them.
-use Rattle.std.specs.Prelude.{ℕ, zero, suc, List, [], Option, Some, None, map, option_map, unwrap_or}
+use Rattle.std.specs.Prelude.{ℕ, zero, suc, List, [], Option, Some, None, option_map, unwrap_or}
 use Rattle.pw_defs.specs.declared.cells.Dir.{Dir}
 use Rattle.pw_defs.specs.declared.netlist.Expr.{Expr}
 use Rattle.pw_defs.specs.declared.netlist.Expr.TheVariants.{Whole, Bit, Part, Const, Join}
@@ -158,13 +158,17 @@ constant = one_of is_constant >>= λ t. Grammar.gives (record { expr = Const (nu
 abbrev pub expr_of : Lined → Expr
 expr_of x = x.expr
 
+-- an expression, of which the line is left out
+abbrev pub unlined : NetlistGrammar Lined → NetlistGrammar Expr
+unlined inner = inner >>= λ x. Grammar.gives (expr_of x)
+
 -- expressions between braces
 abbrev pub concatenation : NetlistGrammar Lined → NetlistGrammar Lined
 concatenation inner = do
   brace ← one_of is_left_brace
-  parts ← comma_list inner
+  parts ← comma_list (unlined inner)
   _ ← one_of is_right_brace
-  Grammar.gives (record { expr = Join (map expr_of parts); line = brace.line })
+  Grammar.gives (record { expr = Join parts; line = brace.line })
 
 -- what may stand alone, or such things in braces that nest no more than `depth` deep
 unfoldable pub nested : NetlistGrammar Lined → ℕ → NetlistGrammar Lined

@@ -1,8 +1,7 @@
 //! Expressions: names with their selections, constants, and concatenations in braces.
-ghost use Rattle.std.specs.Prelude.{◌≡◌, ◌<◌, ◌≤◌, OnOk, IfOk, IfErr, length, map};
-ghost use Rattle.text_streams.specs.declared.stops.Stop.TheVariants.{Memory as OutOfMemory};
+ghost use Rattle.std.specs.Prelude.{◌≡◌, ◌<◌, ◌≤◌, OnOk, length, map};
 ghost use Rattle.text_defs.specs.Grammar.{read};
-ghost use Rattle.net_text.specs.NetlistGrammar.{selected, selected_name, constant, operand, expr_of, nested, concatenation, comma_list};
+ghost use Rattle.net_text.specs.NetlistGrammar.{selected, selected_name, constant, operand, nested, unlined, concatenation, comma_list};
 ghost use Rattle.text_streams.specs.Answers.{Answers, Gives, with_front};
 ghost use Rattle.net_text.specs.CommaLists.{further, comma_then};
 ghost use Rattle.net_text.specs.ParserViews.{lined_view, alone};
@@ -85,18 +84,6 @@ fn alone(alloc: Global, tokens: &mut Tokens<'_>, constants: bool) -> Result<Expr
     selected_name(alloc, tokens)
 }
 
-/// The expressions of a list.
-fn exprs_of(alloc: Global, parts: List<ExprAt>) -> Result<List<Expr>, Stop>
-    ensures ok { IfOk result (λ exprs. exprs ≡ map expr_of (map lined_view parts)) }
-    ensures err { IfErr result (λ e. e ≡ OutOfMemory) }
-{
-    let mut exprs = List::new(alloc);
-    for part in parts.into_vec() {
-        exprs.push(part.expr)?;
-    }
-    Ok(exprs)
-}
-
 /// What may stand alone, or such things in braces that nest no more than `depth` deep.
 #[cycle(nested)]
 pub fn nested(
@@ -131,12 +118,22 @@ fn concatenation(
 {
     let brace = tokens.one(NetClass::LeftBrace)?;
     let parts = parts(alloc, tokens, constants, depth)?;
-    let exprs = exprs_of(alloc, parts)?;
     tokens.one(NetClass::RightBrace)?;
     Ok(ExprAt {
-        expr: Expr::Join(exprs),
+        expr: Expr::Join(parts),
         line: brace.line,
     })
+}
+
+/// A part of a concatenation.
+#[cycle(nested)]
+#[tactic(auto, unfolding(text_defs::specs::Grammar::read))]
+fn part(alloc: Global, tokens: &mut Tokens<'_>, constants: bool, depth: u32) -> Result<Expr, Stop>
+    ensures answers { Answers (λ e. e) (unlined (nested (alone constants) depth)) tokens.old result tokens.new }
+    ensures shorter { OnOk result (length tokens.new < length tokens.old) }
+{
+    let part = nested(alloc, tokens, constants, depth)?;
+    Ok(part.expr)
 }
 
 /// The list between braces.
@@ -146,11 +143,11 @@ fn parts(
     tokens: &mut Tokens<'_>,
     constants: bool,
     depth: u32,
-) -> Result<List<ExprAt>, Stop>
-    ensures answers { Answers (map lined_view) (comma_list (nested (alone constants) depth)) tokens.old result tokens.new }
+) -> Result<List<Expr>, Stop>
+    ensures answers { Answers (λ l. l) (comma_list (unlined (nested (alone constants) depth))) tokens.old result tokens.new }
     ensures shorter { OnOk result (length tokens.new < length tokens.old) }
 {
-    let first = nested(alloc, tokens, constants, depth)?;
+    let first = part(alloc, tokens, constants, depth)?;
     let mut all = List::new(alloc);
     all.push(first)?;
     more_parts(alloc, tokens, constants, depth, all)
@@ -163,10 +160,10 @@ fn more_parts(
     tokens: &mut Tokens<'_>,
     constants: bool,
     depth: u32,
-    parts: List<ExprAt>,
-) -> Result<List<ExprAt>, Stop>
+    parts: List<Expr>,
+) -> Result<List<Expr>, Stop>
     requires { length parts ≡ 1 }
-    ensures answers { Gives (map lined_view) (with_front (map lined_view parts) (read (further (nested (alone constants) depth)) tokens.old)) result tokens.new }
+    ensures answers { Gives (map (λ e. e)) (with_front (map (λ e. e) parts) (read (further (unlined (nested (alone constants) depth))) tokens.old)) result tokens.new }
     ensures longer { OnOk result (length tokens.new ≤ length tokens.old) }
 {
     let mut all = parts;
@@ -188,10 +185,10 @@ fn comma_part(
     tokens: &mut Tokens<'_>,
     constants: bool,
     depth: u32,
-) -> Result<ExprAt, Stop>
-    ensures answers { Answers lined_view (comma_then (nested (alone constants) depth)) tokens.old result tokens.new }
+) -> Result<Expr, Stop>
+    ensures answers { Answers (λ e. e) (comma_then (unlined (nested (alone constants) depth))) tokens.old result tokens.new }
     ensures shorter { OnOk result (length tokens.new < length tokens.old) }
 {
     tokens.one(NetClass::Comma)?;
-    nested(alloc, tokens, constants, depth)
+    part(alloc, tokens, constants, depth)
 }

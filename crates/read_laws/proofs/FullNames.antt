@@ -1,12 +1,12 @@
 -- No name that stands alone in an expression is empty, where the names that it is made of aren't.
-use Rattle.std.proofs.Common.{◌≢◌, ℕ, List, [], Option, None, Some, map, inl, inr, sym, subst}
+use Rattle.std.proofs.Common.{◌≢◌, ℕ, List, [], Option, None, Some, inl, inr, sym, subst}
 use Rattle.std.specs.List.{AllByRecursion}
 use Rattle.pw_defs.specs.declared.netlist.Expr.{Expr}
 use Rattle.pw_defs.specs.declared.netlist.Expr.TheVariants.{Const, Join}
 use Rattle.list_defs.specs.Members.{IsIn}
-use Rattle.list_defs.proofs.Members.{IsIn-flat_map_from, IsIn-map_from}
+use Rattle.list_defs.proofs.Members.{IsIn-flat_map_from}
 use Rattle.list_defs.proofs.Rising.{each_in}
-use Rattle.net_text.specs.NetlistGrammar.{Lined, expr_of, selected}
+use Rattle.net_text.specs.NetlistGrammar.{selected}
 use Rattle.design_defs.specs.Places.{names_alone}
 use Rattle.design_defs.proofs.Expressions.{names_alone_bit, names_alone_const, names_alone_join, names_alone_part, names_alone_whole}
 
@@ -23,8 +23,7 @@ selected_is_full name (Some (n, Some l)) full other i = absurd (subst (IsIn othe
 pub constant_is_full : (count : ℕ) → HasFullNames (Const count)
 constant_is_full count other i = absurd (subst (IsIn other) (names_alone_const count) i)
 
-pub joined_is_full : (parts : List Lined) → AllByRecursion (λ (x : Lined). HasFullNames x.expr) parts → HasFullNames (Join (map expr_of parts))
+pub joined_is_full : (parts : List Expr) → AllByRecursion HasFullNames parts → HasFullNames (Join parts)
 joined_is_full parts each other i =
-    let from = IsIn-flat_map_from names_alone (map expr_of parts) other (subst (IsIn other) (names_alone_join (map expr_of parts)) i) in
-    let part = IsIn-map_from expr_of from.0 parts from.1 in
-    each_in (λ (x : Lined). HasFullNames x.expr) parts part.0 each part.1 other (subst (λ e. IsIn other (names_alone e)) part.2 from.2)
+    let from = IsIn-flat_map_from names_alone parts other (subst (IsIn other) (names_alone_join parts) i) in
+    each_in HasFullNames parts from.0 each from.1 other from.2

@@ -1,5 +1,5 @@
 -- No constant stands among the bits of a selected name, nor of a concatenation of such.
-use Rattle.std.proofs.Common.{ℕ, ◌+◌, ◌-◌, nat_le, Bool, true, false, cond, List, Option, None, Some, map, subst}
+use Rattle.std.proofs.Common.{ℕ, ◌+◌, ◌-◌, nat_le, Bool, true, false, cond, List, Option, None, Some, subst}
 use Rattle.std.specs.List.{AllByRecursion, range_with_len}
 use Rattle.pw_defs.specs.declared.netlist.Expr.{Expr}
 use Rattle.pw_defs.specs.declared.netlist.Expr.TheVariants.{Join}
@@ -7,7 +7,7 @@ use Rattle.pw_defs.specs.declared.netlist.Module.{Module}
 use Rattle.list_defs.specs.Members.{IsIn}
 use Rattle.list_defs.proofs.Members.{IsIn-flat_map_from, IsIn-map_from}
 use Rattle.list_defs.proofs.Rising.{each_in}
-use Rattle.net_text.specs.NetlistGrammar.{Lined, expr_of, selected}
+use Rattle.net_text.specs.NetlistGrammar.{selected}
 use Rattle.design_defs.specs.Places.{Signal, between, declared_range, or_none, places_from, selected as selected_bits, signals, whole}
 use Rattle.design_defs.specs.Ranges.{place_at, width}
 use Rattle.design_defs.proofs.Expressions.{signals_bit, signals_join, signals_part, signals_whole}
@@ -42,8 +42,7 @@ selected_is_target name None m i = none_whole name (declared_range m name) (subs
 selected_is_target name (Some (n, None)) m i = none_selected name (declared_range m name) n n (subst (IsIn Signal.constant) (signals_bit m name n) i)
 selected_is_target name (Some (n, Some l)) m i = none_selected name (declared_range m name) n l (subst (IsIn Signal.constant) (signals_part m name n l) i)
 
-pub joined_is_target : (parts : List Lined) → AllByRecursion (λ (x : Lined). IsTarget x.expr) parts → IsTarget (Join (map expr_of parts))
+pub joined_is_target : (parts : List Expr) → AllByRecursion IsTarget parts → IsTarget (Join parts)
 joined_is_target parts each m i =
-    let from = IsIn-flat_map_from (signals m) (map expr_of parts) Signal.constant (subst (IsIn Signal.constant) (signals_join m (map expr_of parts)) i) in
-    let part = IsIn-map_from expr_of from.0 parts from.1 in
-    each_in (λ (x : Lined). IsTarget x.expr) parts part.0 each part.1 m (subst (λ e. IsIn Signal.constant (signals m e)) part.2 from.2)
+    let from = IsIn-flat_map_from (signals m) parts Signal.constant (subst (IsIn Signal.constant) (signals_join m parts) i) in
+    each_in IsTarget parts from.0 each from.1 m from.2

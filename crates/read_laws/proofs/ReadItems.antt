@@ -5,6 +5,7 @@ use Rattle.std.specs.List.{AllByRecursion, flat_map}
 use Rattle.std.specs.Option.{option_to_list}
 use Rattle.pw_defs.specs.declared.netlist.Assign.{Assign}
 use Rattle.pw_defs.specs.declared.netlist.Conn.{Conn}
+use Rattle.pw_defs.specs.declared.netlist.Expr.{Expr}
 use Rattle.pw_defs.specs.declared.netlist.Expr.TheVariants.{Join}
 use Rattle.pw_defs.specs.declared.netlist.Inst.{Inst}
 use Rattle.list_defs.proofs.Rising.{each_joined}
@@ -16,7 +17,7 @@ use Rattle.net_text.specs.NetlistClasses.{begins_expr, begins_header, begins_ite
 use Rattle.net_text.specs.NetlistGrammar.{Assigns, Directions, Header, Item, Lined, ModuleWords, Named, Names, NetlistGrammar, Shape, Wires}
 use Rattle.net_text.specs.NetlistGrammar.{assignment, assigns_item, comma_list, concatenation, connection, constant, directions_item, expr, expr_of, further_port}
 use Rattle.net_text.specs.NetlistGrammar.{header, header_between, header_inside, instance_item, item, module_words, most, name, names_header, nested, netlist}
-use Rattle.net_text.specs.NetlistGrammar.{operand, range_option, selected_name, selection, shape, shaped_header, target, wires_item}
+use Rattle.net_text.specs.NetlistGrammar.{operand, range_option, selected_name, selection, shape, shaped_header, target, unlined, wires_item}
 use Rattle.net_text.specs.NetlistTokens.{NetlistClass}
 use Rattle.net_text.specs.SecondDeclarations.{Declaration, HeaderPort, PortDirection, WireName, declarations, header_ports, item_declarations, named_in, shaped_ports}
 use Rattle.read_laws.proofs.FullNames.{HasFullNames, constant_is_full, joined_is_full, selected_is_full}
@@ -53,15 +54,18 @@ abbrev HasFullLine : Lined → Type 0
 HasFullLine x = HasFullNames x.expr
 
 -- a left side: no constant, and no empty name
-record IsLeft (x : Lined) : Type 0 where
-  target : IsTarget x.expr
-  full : HasFullNames x.expr
+record IsLeft (e : Expr) : Type 0 where
+  target : IsTarget e
+  full : HasFullNames e
 
-of_selected : Gives selected_name IsLeft
+abbrev IsLeftLine : Lined → Type 0
+IsLeftLine x = IsLeft x.expr
+
+of_selected : Gives selected_name IsLeftLine
 of_selected =
-    holds-then HasText name _ IsFull IsLeft of_name
-    (λ n full. behind (option (of_class is_left_bracket) selection) _ IsLeft
-    (λ s. holds-gives HasText IsLeft _ (record { target = selected_is_target n.text s; full = selected_is_full n.text s full })))
+    holds-then HasText name _ IsFull IsLeftLine of_name
+    (λ n full. behind (option (of_class is_left_bracket) selection) _ IsLeftLine
+    (λ s. holds-gives HasText IsLeftLine _ (record { target = selected_is_target n.text s; full = selected_is_full n.text s full })))
 
 of_constant : Gives constant HasFullLine
 of_constant = behind (one_of is_constant) _ HasFullLine (λ t. holds-gives HasText HasFullLine _ (constant_is_full _))
@@ -71,35 +75,41 @@ of_operand =
     holds-where HasText (of_class is_name) selected_name constant HasFullLine (λ tokens x such reads. (of_selected tokens x such reads).full) of_constant
 
 -- what holds of a concatenation where it holds of its parts
-abbrev Joins : (Lined → Type 0) → Type 0
-Joins P = (parts : List Lined) (line : ℕ) → AllByRecursion P parts → P (record { expr = Join (map expr_of parts); line = line })
+abbrev Joins : (Expr → Type 0) → Type 0
+Joins P = (parts : List Expr) → AllByRecursion P parts → P (Join parts)
 
-of_nested : (P : Lined → Type 0) → Joins P → (alone : NetlistGrammar Lined) → Gives alone P → (depth : ℕ) → Gives (nested alone depth) P
+abbrev OfLine : (Expr → Type 0) → Lined → Type 0
+OfLine P x = P x.expr
+
+of_unlined : (P : Expr → Type 0) (inner : NetlistGrammar Lined) → Gives inner (OfLine P) → Gives (unlined inner) P
+of_unlined P inner of_inner = holds-then HasText inner _ (OfLine P) P of_inner (λ x holds. holds-gives HasText P _ holds)
+
+of_nested : (P : Expr → Type 0) → Joins P → (alone : NetlistGrammar Lined) → Gives alone (OfLine P) → (depth : ℕ) → Gives (nested alone depth) (OfLine P)
 unfolding nested
 of_nested P joins alone of_alone zero = of_alone
 of_nested P joins alone of_alone (suc depth) =
-    holds-where HasText (of_class is_left_brace) (concatenation (nested alone depth)) alone P
-    (behind (one_of is_left_brace) _ P
-    (λ brace. holds-then HasText (comma_list (nested alone depth)) _ (AllByRecursion P) P
-    (holds-listed HasText most (of_class is_comma) (one_of is_comma) (nested alone depth) P (of_nested P joins alone of_alone depth))
-    (λ parts each. behind (one_of is_right_brace) _ P (λ closed. holds-gives HasText P _ (joins parts brace.line each)))))
+    holds-where HasText (of_class is_left_brace) (concatenation (nested alone depth)) alone (OfLine P)
+    (behind (one_of is_left_brace) _ (OfLine P)
+    (λ brace. holds-then HasText (comma_list (unlined (nested alone depth))) _ (AllByRecursion P) (OfLine P)
+    (holds-listed HasText most (of_class is_comma) (one_of is_comma) (unlined (nested alone depth)) P
+    (of_unlined P (nested alone depth) (of_nested P joins alone of_alone depth)))
+    (λ parts each. behind (one_of is_right_brace) _ (OfLine P) (λ closed. holds-gives HasText (OfLine P) _ (joins parts each)))))
     of_alone
 
 of_expr : Gives expr HasFullLine
-of_expr = of_nested HasFullLine (λ parts line each. joined_is_full parts each) operand of_operand 100
+of_expr = of_nested HasFullNames joined_is_full operand of_operand 100
 
-targets : (parts : List Lined) → AllByRecursion IsLeft parts → AllByRecursion (λ (x : Lined). IsTarget x.expr) parts
+targets : (parts : List Expr) → AllByRecursion IsLeft parts → AllByRecursion IsTarget parts
 targets [] each = tt
 targets (x ∷ parts) each = (each.0.target, targets parts each.1)
 
-fulls : (parts : List Lined) → AllByRecursion IsLeft parts → AllByRecursion HasFullLine parts
+fulls : (parts : List Expr) → AllByRecursion IsLeft parts → AllByRecursion HasFullNames parts
 fulls [] each = tt
 fulls (x ∷ parts) each = (each.0.full, fulls parts each.1)
 
-of_target : Gives target IsLeft
+of_target : Gives target IsLeftLine
 of_target =
-    of_nested IsLeft
-    (λ parts line each. record { target = joined_is_target parts (targets parts each); full = joined_is_full parts (fulls parts each) }) selected_name
+    of_nested IsLeft (λ parts each. record { target = joined_is_target parts (targets parts each); full = joined_is_full parts (fulls parts each) }) selected_name
     of_selected 100
 
 -- ---- lines
@@ -112,7 +122,7 @@ pub record IsReadAssign (a : Assign) : Type 0 where
 
 of_assignment : Gives assignment IsReadAssign
 of_assignment =
-    holds-then HasText target _ IsLeft IsReadAssign of_target
+    holds-then HasText target _ IsLeftLine IsReadAssign of_target
     (λ left of_left. behind (one_of is_equals) _ IsReadAssign
     (λ equals. holds-then HasText expr _ HasFullLine IsReadAssign of_expr
     (λ right full. holds-gives HasText IsReadAssign _ (record { target = of_left.target; left = of_left.full; right = full }))))

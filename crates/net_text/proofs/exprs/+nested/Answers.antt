@@ -1,12 +1,13 @@
-use Rattle.std.proofs.Common.{sym, ap, map, ◌∙◌, ◌-◌, ◌<◌, ◌≡◌, ◌++◌, ◌∷◌, [], suc, length, arith}
+use Rattle.std.proofs.Common.{sym, ap, map, ◌∙◌, ◌-◌, ◌<◌, ◌≡◌, ◌++◌, ◌∷◌, [], List, suc, length, arith}
 use Rattle.std.proofs.lemmas.Result.{err_from_is_err_and}
+use Rattle.pw_defs.specs.declared.netlist.Expr.{Expr}
 use Rattle.text_defs.specs.Tokens.{of_class}
 use Rattle.net_text.specs.NetlistClasses.{is_comma}
-use Rattle.net_text.specs.NetlistGrammar.{nested}
+use Rattle.net_text.specs.NetlistGrammar.{comma_list, nested, unlined}
 use Rattle.net_text.specs.CommaLists.{comma_then}
-use Rattle.net_text.specs.ParserViews.{lined_view, alone}
+use Rattle.net_text.specs.ParserViews.{alone}
 use Rattle.text_streams.proofs.AnswerLaws.{stopped, stopped_first, kept_on}
-use Rattle.net_text.proofs.ListLaws.{list_stops, list_read, further_fault, further_end}
+use Rattle.net_text.proofs.ListLaws.{list_stops, list_read, plain_list, further_fault, further_end}
 use Rattle.net_text.proofs.NestedLaws.{nested_flat, nested_alone, nested_braces}
 use Rattle.net_text.proofs.exprs.+nested.Goals as goal
 
@@ -29,21 +30,22 @@ pub parts-returns-in_err-first-clause-answers : goal.parts-returns-in_err-first-
 parts-returns-in_err-first-clause-answers t c =
     let p = err_from_is_err_and c.from_residual.result c.from_residual.ensures.1 in
     rw (p.1, p.2)
-    (stopped_first lined_view (map lined_view) (nested (alone c.args.constants) c.args.depth) _ c.args.tokens.now c.nested.new.tokens c.in_err-first.field-0.0 c.in_err-first.ensures.answers
-    (list_stops (nested (alone c.args.constants) c.args.depth) c.args.tokens.now c.nested.new.tokens))
+    (stopped_first (λ (e : Expr). e) (λ (l : List Expr). l) (unlined (nested (alone c.args.constants) c.args.depth)) _ c.args.tokens.now c.part.new.tokens c.in_err-first.field-0.0 c.in_err-first.ensures.answers
+    (list_stops (unlined (nested (alone c.args.constants) c.args.depth)) c.args.tokens.now c.part.new.tokens))
 
 pub parts-returns-clause-answers : goal.parts-returns-clause-answers
 parts-returns-clause-answers t c =
-    list_read lined_view (nested (alone c.args.constants) c.args.depth) c.args.tokens.now c.nested.new.tokens c.in_ok-first.first c.push.new.self c.more_parts.result c.more_parts.new.tokens
-    c.in_ok-first.ensures.answers (c.in_ok-push.ensures.ok ∙ ap (λ l. l ++ c.in_ok-first.first ∷ []) c.new-all.ensures) c.more_parts.ensures.answers
+    plain_list (comma_list (unlined (nested (alone c.args.constants) c.args.depth))) c.args.tokens.now c.more_parts.new.tokens c.more_parts.result
+    (list_read (λ (e : Expr). e) (unlined (nested (alone c.args.constants) c.args.depth)) c.args.tokens.now c.part.new.tokens c.in_ok-first.first c.push.new.self c.more_parts.result c.more_parts.new.tokens
+    c.in_ok-first.ensures.answers (c.in_ok-push.ensures.ok ∙ ap (λ l. l ++ c.in_ok-first.first ∷ []) c.new-all.ensures) c.more_parts.ensures.answers)
 
 pub more_parts-returns-in_err-part-clause-answers : goal.more_parts-returns-in_err-part-clause-answers
 more_parts-returns-in_err-part-clause-answers t c =
     let p = err_from_is_err_and c.from_residual.result c.from_residual.ensures.1 in
     let lt : length c.loop-alloc.all < 4294967296 = omega (arith, c.len.ensures, c.len.type_inv) in
     rw (p.1, p.2)
-    (stopped lined_view (map lined_view) (comma_then (nested (alone c.args.constants) c.args.depth)) c.loop-alloc.tokens c.comma_part.new.tokens _ c.in_err-part.field-0.0 c.in_err-part.ensures.answers
-    (further_fault lined_view (nested (alone c.args.constants) c.args.depth) _ c.loop-alloc.all _ c.loop-alloc.tokens c.loop-alloc.invariant.kept c.requires c.comma_part.new.tokens lt
+    (stopped (λ (e : Expr). e) (map (λ (e : Expr). e)) (comma_then (unlined (nested (alone c.args.constants) c.args.depth))) c.loop-alloc.tokens c.comma_part.new.tokens _ c.in_err-part.field-0.0 c.in_err-part.ensures.answers
+    (further_fault (λ (e : Expr). e) (unlined (nested (alone c.args.constants) c.args.depth)) _ c.loop-alloc.all _ c.loop-alloc.tokens c.loop-alloc.invariant.kept c.requires c.comma_part.new.tokens lt
     (sym c.is_next.ensures ∙ c.loop-alloc-test.true)))
 
 pub more_parts-loop-alloc-preserved : goal.more_parts-loop-alloc-preserved
@@ -51,7 +53,7 @@ more_parts-loop-alloc-preserved t c =
     let lt : length c.loop-alloc.all < 4294967296 = omega (arith, c.len.ensures, c.len.type_inv) in
     record {
       kept =
-          kept_on lined_view (of_class is_comma) (comma_then (nested (alone c.args.constants) c.args.depth)) 4294967296 _ c.loop-alloc.all _ c.loop-alloc.tokens c.loop-alloc.invariant.kept
+          kept_on (λ (e : Expr). e) (of_class is_comma) (comma_then (unlined (nested (alone c.args.constants) c.args.depth))) 4294967296 _ c.loop-alloc.all _ c.loop-alloc.tokens c.loop-alloc.invariant.kept
           c.comma_part.new.tokens c.in_ok-part.part c.push.new.self lt (sym c.is_next.ensures ∙ c.loop-alloc-test.true) c.in_ok-part.ensures.answers
           c.in_ok-push.ensures.ok;
       longer = omega (arith, c.in_ok-part.ensures.shorter, c.loop-alloc.invariant.longer);
@@ -59,4 +61,4 @@ more_parts-loop-alloc-preserved t c =
 
 pub more_parts-returns-clause-answers : goal.more_parts-returns-clause-answers
 more_parts-returns-clause-answers t c =
-    further_end lined_view (nested (alone c.args.constants) c.args.depth) _ c.loop-alloc.all _ c.loop-alloc.tokens c.loop-alloc.invariant.kept c.requires (sym c.is_next.ensures ∙ c.loop-alloc-test.false)
+    further_end (λ (e : Expr). e) (unlined (nested (alone c.args.constants) c.args.depth)) _ c.loop-alloc.all _ c.loop-alloc.tokens c.loop-alloc.invariant.kept c.requires (sym c.is_next.ensures ∙ c.loop-alloc-test.false)

@@ -1,0 +1,4 @@
+pub mod FunctionLemmas
+pub mod KeyLemmas
+pub mod MeaningLemmas
+pub mod WorkedConditions

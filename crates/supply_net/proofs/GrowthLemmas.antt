@@ -6,7 +6,7 @@ use Rattle.pw_defs.specs.declared.supplies.Supply.{Supply}
 use Rattle.list_defs.specs.Rings.{IsReached}
 use Rattle.list_defs.proofs.Longer.{slice_get-append, slice_get_front, slice_get_last}
 use Rattle.supply_defs.specs.Network.{feeder_at, FeedersLead}
-use Rattle.supply_net.specs.Feeders.{IsAbove, AreAbove, AreFeeders}
+use Rattle.supply_net.specs.Feeders.{IsAbove, AreAbove, AreFeeders, IsFitting}
 use Rattle.supply_net.proofs.FeederLemmas.{led_there}
 
 -- a list of supplies and one more, which has this feeder
@@ -48,10 +48,6 @@ is_longer old s = record {
           | inl before ↦ inl (ap feeder_in (slice_get_front old (s ∷ []) a t before e) ∙ h)
           | inr same ↦ inr (same, at_last a f t e (cc) same)
         ]
-
--- the feeder of the last supply is one that was there, if there is one
-abbrev pub IsFitting : List Supply → Option ℕ → Type 0
-IsFitting old feeder = (f : ℕ) → feeder ≡ Some f → f < length old
 
 lead_longer : (old new : List Supply) (feeder : Option ℕ) → IsLonger old new feeder → (a b : ℕ) → FeedersLead old a b → FeedersLead new a b
 lead_longer old new feeder l _ _ (IsReached.one a b step) = IsReached.one a b (l.same a (Some b) step)

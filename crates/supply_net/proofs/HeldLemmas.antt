@@ -1,5 +1,6 @@
 -- What a network holds once a supply is new, of another kind or fed.
-use Rattle.std.proofs.Common.{◌≡◌, ◌≢◌, ℕ, ◌<◌, Bool, true, false, eqb, List, [], ◌∷◌, ◌++◌, length, Option, Some, None, option_map, slice_get, set, inl, inr, refl, sym, ap, ◌∙◌, subst, arith}
+use Rattle.std.proofs.Common.{◌≡◌, ◌≢◌, ℕ, ◌<◌, Bool, true, false, eqb, List, [], ◌∷◌, ◌++◌, length, Option, Some, None, option_map, slice_get, set, ◌⊎◌, inl, inr, refl, sym, ap, ◌∙◌, subst, arith}
+use Rattle.std.specs.Option.{unwrap_or}
 use Rattle.std.proofs.lemmas.Bool.{eqb-true, eqb-false}
 use Rattle.std.proofs.lemmas.List.{length-set}
 use Rattle.std.proofs.lemmas.Option.{slice_get_within}
@@ -8,19 +9,24 @@ use Rattle.pw_defs.specs.declared.supplies.SupplyKind.{SupplyKind}
 use Rattle.list_defs.specs.Rings.{IsReached}
 use Rattle.list_defs.proofs.Longer.{slice_get-set_same, slice_get-set_other}
 use Rattle.supply_defs.specs.Network.{feeder_at, IsUnfed, FeedersLead}
-use Rattle.supply_net.specs.Feeders.{IsAbove, AreAbove, AreFeeders}
+use Rattle.supply_net.specs.Feeders.{IsAbove, AreAbove, AreFeeders, IsFitting}
 use Rattle.supply_net.specs.Networks.{with_feeder, with_kind, of_kind, changed_at}
 use Rattle.supply_net.specs.Parts.{IsHeld}
 use Rattle.supply_net.proofs.FeederLemmas.{is_link, still_feeders, still_above}
 use Rattle.supply_net.proofs.GrowthLemmas.{is_longer, longer_feeders, longer_above}
 
--- a supply without feeder is pushed
+-- what is above a supply that is new: itself, or its feeder
+above_new : (feeder : Option ℕ) (n m : ℕ) → m ≡ unwrap_or feeder n → ((m ≡ n) × (feeder ≡ None)) ⊎ (feeder ≡ Some m)
+above_new None n m is = inl (is, refl)
+above_new (Some f) n m is = inr (ap Some (sym is))
+
+-- a supply is pushed
 pub pushed_held : (supplies new : List Supply) (above up : List ℕ) (s : Supply) (m : ℕ) → IsHeld supplies above → new ≡ supplies ++ s ∷ []
-    → up ≡ above ++ m ∷ [] → s.feeder ≡ None → m ≡ length supplies → IsHeld new up
-pushed_held supplies new above up s m h n u none last =
+    → up ≡ above ++ m ∷ [] → IsFitting supplies s.feeder → m ≡ unwrap_or s.feeder (length supplies) → IsHeld new up
+pushed_held supplies new above up s m h n u fits last =
     subst (λ (xs : List Supply). IsHeld xs up) (sym n) (subst (λ (ys : List ℕ). IsHeld (supplies ++ s ∷ []) ys) (sym u) (record {
-      feeders = longer_feeders supplies (supplies ++ s ∷ []) s.feeder (is_longer supplies s) (λ f fed. cc) h.feeders;
-      up = longer_above supplies (supplies ++ s ∷ []) s.feeder (is_longer supplies s) above m (inl (last, none)) h.up;
+      feeders = longer_feeders supplies (supplies ++ s ∷ []) s.feeder (is_longer supplies s) fits h.feeders;
+      up = longer_above supplies (supplies ++ s ∷ []) s.feeder (is_longer supplies s) above m (above_new s.feeder (length supplies) m last) h.up;
     }))
 
 -- the same feeders, and as many supplies

@@ -4,3 +4,5 @@ pub mod RootLemmas
 pub mod GrowthLemmas
 pub mod NetworkLemmas
 pub mod HeldLemmas
+pub mod SwitchLemmas
+pub mod WorkedSwitches

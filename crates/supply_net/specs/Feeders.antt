@@ -1,5 +1,5 @@
 -- For each supply one further up its feeders, by which the end of its feeders is found.
-use Rattle.std.specs.Prelude.{◌≡◌, ℕ, ◌⊎◌, List, Some, length, slice_get}
+use Rattle.std.specs.Prelude.{◌≡◌, ℕ, ◌<◌, ◌⊎◌, List, Option, Some, length, slice_get}
 use Rattle.pw_defs.specs.declared.supplies.Supply.{Supply}
 use Rattle.supply_defs.specs.Network.{IsUnfed, FeedersLead, HasNoFeederRing, HasFeedersInRange}
 
@@ -25,3 +25,7 @@ pub record IsTop (supplies : List Supply) (a top : ℕ) : Type 0 where
 pub record AreFeeders (supplies : List Supply) : Type 0 where
   pub in_range : HasFeedersInRange supplies
   pub ringless : HasNoFeederRing supplies
+
+-- the feeder of a supply that is new is one of those that were there, if there is one
+abbrev pub IsFitting : List Supply → Option ℕ → Type 0
+IsFitting old feeder = (f : ℕ) → feeder ≡ Some f → f < length old

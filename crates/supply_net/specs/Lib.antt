@@ -2,3 +2,4 @@ pub mod Names
 pub mod Networks
 pub mod Feeders
 pub mod Parts
+pub mod Switches

@@ -3,7 +3,7 @@ ghost use Rattle.std.specs.Prelude.{◌≡◌, ◌≢◌, ◌<◌, ℕ, [], Some
 ghost use Rattle.supply_defs.specs.Network.{IsRoot, IsUnfed, feeder_at};
 ghost use Rattle.supply_defs.specs.UnitViews.{kind_at};
 ghost use Rattle.supply_net.specs.Names.{nothing, scoped};
-ghost use Rattle.supply_net.specs.Feeders.{AreFeeders};
+ghost use Rattle.supply_net.specs.Feeders.{AreFeeders, IsFitting};
 ghost use Rattle.supply_net.specs.Parts.{network_of};
 ghost use Rattle.supply_net.specs.Networks.{IsRefusalOf, IsTaken, Joins, Makes, after_net, after_net_at, after_port, after_port_at, after_set, feeds_net, is_port, is_port_or_net, joining, may_become, net_to_keep, net_to_turn, new_supply, port_kind, with_feeder, with_kind, with_set, with_supply};
 
@@ -17,15 +17,15 @@ use std::mem;
 
 /// Supplies and sets in the order in which they were made, with the names of all objects.
 ///
-/// A call that is refused, or that wants memory, leaves all as it was.
+/// A call that is refused leaves all as it was, and so does one that wants memory, other than `add_switch`.
 #[derive(Drop)]
 pub struct Supplies {
-    supplies: List<Supply>,
+    pub(crate) supplies: List<Supply>,
     /// For each supply one further up its feeders, or itself where it has none.
-    above: Vec<u32>,
-    sets: u32,
-    names: ScopedNames,
-    alloc: Global,
+    pub(crate) above: Vec<u32>,
+    pub(crate) sets: u32,
+    pub(crate) names: ScopedNames,
+    pub(crate) alloc: Global,
 }
 
 impl Model for Supplies {
@@ -136,7 +136,7 @@ fn kind_of(supplies: &List<Supply>, supply: u32) -> Option<SupplyKind>
     Some(supply.kind)
 }
 
-fn feeder_of(supplies: &List<Supply>, supply: u32) -> Option<Option<u32>>
+pub(crate) fn feeder_of(supplies: &List<Supply>, supply: u32) -> Option<Option<u32>>
     ensures { result ≡ feeder_at supplies.now supply }
 {
     let supply = supplies.get(supply)?;
@@ -182,7 +182,7 @@ fn net_to_keep(supplies: &List<Supply>, object: Object) -> Option<u32>
 }
 
 /// The refusal of a name that is there already.
-fn taken(alloc: Global, name: &[u8]) -> SupplyFault
+pub(crate) fn taken(alloc: Global, name: &[u8]) -> SupplyFault
     ensures { IsTaken name.now result }
 {
     match Name::from_slice(alloc, name) {
@@ -230,14 +230,25 @@ impl Supplies {
         ensures ok { OnOk result (network_of self.new ≡ with_supply (network_of self.old) scope (new_supply name.now kind)) }
         ensures err { OnErr result (network_of self.new ≡ network_of self.old) }
     {
-        let key = scoped(self.alloc, scope, name)?;
         let supply = new_supply(self.alloc, name, kind)?;
+        self.push_made(scope, supply)
+    }
+
+    /// Adds a supply as it is, whose name then stands for it. Its feeder, if it has one, is there already.
+    pub(crate) fn push_made(&mut self, scope: u32, supply: Supply) -> Result<u32, Memory>
+        requires { IsFitting self.old.supplies supply.feeder }
+        ensures number { IfOk result (λ n. n ≡ length self.old.supplies) }
+        ensures ok { OnOk result (network_of self.new ≡ with_supply (network_of self.old) scope supply) }
+        ensures err { OnErr result (network_of self.new ≡ network_of self.old) }
+    {
+        let key = scoped(self.alloc, scope, supply.name.as_slice())?;
         let number = self.supplies.len();
+        let above = supply.feeder.unwrap_or(number);
         self.above.reserve(1)?;
         self.supplies.push(supply)?;
         match self.names.put(key.as_slice(), Object::Supply(number)) {
             Ok(()) => {
-                self.above.push_reserved(number);
+                self.above.push_reserved(above);
                 Ok(number)
             }
             Err(fault) => {
@@ -248,7 +259,7 @@ impl Supplies {
     }
 
     /// What a name stands for in a scope.
-    fn object(&self, scope: u32, name: &[u8]) -> Result<Option<Object>, Memory>
+    pub(crate) fn object(&self, scope: u32, name: &[u8]) -> Result<Option<Object>, Memory>
         ensures { IfOk result (λ object. object ≡ (network_of self.now).objects (scoped scope name.now)) }
     {
         let key = scoped(self.alloc, scope, name)?;
@@ -360,7 +371,7 @@ impl Supplies {
     }
 
     /// The refusal of a joining that would feed a supply.
-    fn refusal(&self, fed: u32) -> SupplyFault
+    pub(crate) fn refusal(&self, fed: u32) -> SupplyFault
         requires { fed < length self.now.supplies }
         ensures { IsRefusalOf self.now.supplies fed result }
     {
@@ -374,7 +385,7 @@ impl Supplies {
     }
 
     /// Lets a supply without feeder be fed by another, where no ring comes of it.
-    fn feed(&mut self, fed: u32, by: u32) -> Result<(), SupplyFault>
+    pub(crate) fn feed(&mut self, fed: u32, by: u32) -> Result<(), SupplyFault>
         requires fed { fed < length self.old.supplies }
         requires by { by < length self.old.supplies }
         requires unfed { IsUnfed self.old.supplies fed }

@@ -1,6 +1,6 @@
-use Rattle.call_tests.proofs.SmallTables.{some_number, made_set}
+use Rattle.set_tests.proofs.SmallTables.{some_number, made_set}
 use Rattle.diagram_defs.proofs.Yielding.{value_of}
-use Rattle.call_tests.proofs.kept_sets.lifted.Goals as goal
+use Rattle.set_tests.proofs.kept_sets.lifted.Goals as goal
 
 pub lift-requires-clause-number : goal.lift-requires-clause-number
 lift-requires-clause-number g c =

@@ -1,7 +1,7 @@
 use Rattle.std.proofs.Common.{◌≡◌, ◌++◌, [], ◌∷◌, ◌∙◌}
-use Rattle.call_tests.proofs.SmallTables.{some_pairs, pairs_are, both_is, one_is}
-use Rattle.call_tests.proofs.kept_sets.kept_pairs.Goals as goal
-use Rattle.call_tests.proofs.kept_sets.kept_pairs.Goals.{In_ok-push-4}
+use Rattle.set_tests.proofs.SmallTables.{some_pairs, pairs_are, both_is, one_is}
+use Rattle.set_tests.proofs.kept_sets.kept_pairs.Goals as goal
+use Rattle.set_tests.proofs.kept_sets.kept_pairs.Goals.{In_ok-push-4}
 
 nodes : (c : In_ok-push-4) → c.push-4.new.self ≡ some_pairs.nodes
 nodes c =

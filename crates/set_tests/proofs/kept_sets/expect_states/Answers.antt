@@ -1,5 +1,5 @@
-use Rattle.call_tests.proofs.SmallTables.{first_level}
-use Rattle.call_tests.proofs.kept_sets.expect_states.Goals as goal
+use Rattle.set_tests.proofs.SmallTables.{first_level}
+use Rattle.set_tests.proofs.kept_sets.expect_states.Goals as goal
 
 pub project-requires-clause-levels : goal.project-requires-clause-levels
 project-requires-clause-levels g c =

@@ -1,7 +1,7 @@
 use Rattle.std.proofs.Common.{ap}
 use Rattle.diagram_defs.specs.Diagrams.{Diagram}
-use Rattle.call_tests.proofs.SmallTables.{first_none, no_arity}
-use Rattle.call_tests.proofs.kept_sets.expect_projected.Goals as goal
+use Rattle.set_tests.proofs.SmallTables.{first_none, no_arity}
+use Rattle.set_tests.proofs.kept_sets.expect_projected.Goals as goal
 
 pub new-requires-clause-arities : goal.new-requires-clause-arities
 new-requires-clause-arities g c = no_arity

@@ -4,4 +4,7 @@
 //! and `HasCommandFault` of `upf_commands`.
 #![tactic(auto)]
 
+mod lists;
+mod partings;
 mod table;
+mod words;

@@ -7,4 +7,5 @@
 mod lists;
 mod partings;
 mod table;
+mod values;
 mod words;

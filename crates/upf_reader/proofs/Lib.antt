@@ -1,4 +1,5 @@
 pub mod ListLemmas
+pub mod PartLemmas
 pub mod RowLemmas
 pub mod ValueLemmas
 pub mod WordLemmas

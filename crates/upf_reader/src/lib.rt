@@ -6,6 +6,7 @@
 
 mod lists;
 mod partings;
+mod parts;
 mod table;
 mod values;
 mod words;

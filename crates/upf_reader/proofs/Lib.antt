@@ -1,3 +1,4 @@
+pub mod LackLemmas
 pub mod ListLemmas
 pub mod PartLemmas
 pub mod RowLemmas

@@ -4,6 +4,9 @@ use Rattle.list_defs.specs.Members.{IsIn}
 use Rattle.pw_defs.specs.declared.faults.At.{At}
 use Rattle.pw_defs.specs.declared.faults.TclFault.TheVariants.{T1, T2}
 use Rattle.tcl_words.specs.ListWords.{HasListFault}
+use Rattle.upf_commands.specs.CommandRows.{OptionRow, CommandRow}
+use Rattle.upf_commands.specs.CommandWords.{Item, given}
+use Rattle.upf_commands.specs.Commands.{HasKey}
 use Rattle.upf_commands.specs.Forms.{Form, list, pair, HasForm, IsMisformed, HasFormFault}
 use Rattle.upf_reader.specs.declared.values.OpenLists.{OpenLists}
 
@@ -29,3 +32,11 @@ pub record ArePairsFormed (items : List (List ℕ)) (lists : OpenLists) : Type 0
   pub unclosed : IsTrue lists.unclosed ↔ ((item : List ℕ) × (at : At) × IsIn item items × HasListFault item (T1 at))
   pub after_word : IsTrue lists.after_word ↔ ((item : List ℕ) × (at : At) × IsIn item items × HasListFault item (T2 at))
   pub fits : lists.unclosed ≡ false → lists.after_word ≡ false → (item : List ℕ) → IsIn item items → HasForm (list pair) item
+
+-- the item gives this option a word for the key
+abbrev pub GivesKey : OptionRow → List ℕ → Item → Type 0
+GivesKey o key item = (p : OptionRow) × (earlier : List ℕ) × (item ≡ given p earlier) × (p.kept ≡ o.kept) × HasKey earlier key
+
+-- one of the items does
+abbrev pub SomeGivesKey : OptionRow → List ℕ → List Item → Type 0
+SomeGivesKey o key items = (item : Item) × IsIn item items × GivesKey o key item

@@ -4,6 +4,9 @@
 //! and `HasCommandFault` of `upf_commands`.
 #![tactic(auto)]
 
+mod apart;
+mod keys;
+mod lacks;
 mod lists;
 mod partings;
 mod parts;

@@ -1,3 +1,5 @@
+pub mod JudgeLemmas
+pub mod KeyLemmas
 pub mod LackLemmas
 pub mod ListLemmas
 pub mod PartLemmas

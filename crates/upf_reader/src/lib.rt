@@ -5,6 +5,7 @@
 #![tactic(auto)]
 
 mod apart;
+mod checks;
 mod keys;
 mod lacks;
 mod lists;

@@ -1,5 +1,5 @@
 -- How the items of a line are judged one by one.
-use Rattle.std.proofs.Common.{◌≡◌, ◌↔◌, ◌<◌, ◌+◌, ℕ, zero, suc, Bool, true, false, ◌||◌, ◌⊎◌, inl, inr, List, [], ◌∷◌, ◌++◌, Option, Some, None, MatchOption, IsTrue, length, get_or, take, drop, map, filter_map, codes, refl, sym, ap, ◌∙◌, subst, arith, append_assoc, append-nil}
+use Rattle.std.proofs.Common.{◌≡◌, ◌↔◌, ◌<◌, ◌+◌, ℕ, zero, suc, Bool, true, false, ◌||◌, ◌⊎◌, inl, inr, List, [], ◌∷◌, ◌++◌, Option, Some, None, is_some, not, ◌&&◌, MatchOption, IsTrue, length, get_or, take, drop, map, filter_map, codes, refl, sym, ap, ◌∙◌, subst, arith, append_assoc, append-nil}
 use Rattle.std.proofs.lemmas.Bool.{false≢true, true≢false}
 use Rattle.list_defs.specs.Members.{IsIn}
 use Rattle.pw_defs.specs.declared.faults.At.{At}
@@ -11,7 +11,8 @@ use Rattle.upf_commands.proofs.CommandReading.{EachBehind, AreGood, none_bad, wh
 use Rattle.upf_commands.specs.CommandFaults.{IsBad, again, key, form, surplus, own_form, IsFirstBad, HasUnclosed, HasAfterWord, HasCommandFault, no_option, absent, misformed, unclosed, after_word, named, shown}
 use Rattle.upf_commands.specs.CommandRows.{OptionRow, CommandRow}
 use Rattle.upf_commands.specs.CommandWords.{Item, own, given, unknown, lacking}
-use Rattle.upf_commands.specs.Commands.{IsGood, good_own, good_option, HasItems, IsWhole, RepeatsKey, may_give, may_own, lacking_option, unknown_word, unknown_words, missing}
+use Rattle.upf_commands.specs.Commands.{IsGood, good_own, good_option, HasItems, IsWhole, RepeatsKey, may_give, may_own, lacking_option, own_word, unknown_word, unknown_words, missing}
+use Rattle.std.specs.List.{list_any}
 use Rattle.upf_commands.specs.Forms.{WordForm, IsWordOf, HasFormFault, IsMisformed}
 use Rattle.upf_reader.specs.Faults.{both, IsFormed}
 use Rattle.upf_reader.specs.Judging.{IsUnclosed, IsAfterWord, IsItemFormed, AreItemsFormed}
@@ -223,3 +224,24 @@ module _ (line : Line) (row : CommandRow) (items : List Item) where
       let known : unknown_words items ≡ [] = none_first (unknown_words items) (sym n) in
       let there : missing row items ≡ [] = none_first (missing row items) (sym e) in
       whole row items known there (j.good u a known (first_part (filter_map lacking_option items) _ (first_part (filter_map lacking_option items ++ _) _ there)))
+
+-- whether an own word may stand there
+pub may_so : (row : CommandRow) (before : List Item) (needed : WordForm) (b : Bool) → row.own ≡ Some needed → b ≡ list_any (λ i. is_some (own_word i)) before → b ≡ false
+    → may_own row before ≡ true
+may_so row before needed b e f g = ap (λ o. is_some o && not (list_any (λ i. is_some (own_word i)) before)) e ∙ ap not (sym f ∙ g)
+
+pub may_not : (row : CommandRow) (before : List Item) (b : Bool) → b ≡ list_any (λ i. is_some (own_word i)) before → b ≡ true → may_own row before ≡ false
+may_not row before b f g = ap (λ t. is_some row.own && not t) (sym f ∙ g) ∙ by (is_some row.own)
+  where
+    by : (t : Bool) → (t && false) ≡ false
+    by true = refl
+    by false = refl
+
+pub may_none : (row : CommandRow) (before : List Item) → row.own ≡ None → may_own row before ≡ false
+may_none row before e = ap (λ o. is_some o && not (list_any (λ i. is_some (own_word i)) before)) e
+
+-- the item at a place, whatever stands past the end
+pub same_item : {X : Type 0} (xs : List X) (i : ℕ) (d e : X) → i < length xs → get_or xs i d ≡ get_or xs i e
+same_item [] i d e less = absurd (omega arith)
+same_item (x ∷ xs) zero d e less = refl
+same_item (x ∷ xs) (suc i) d e less = same_item xs i d e (omega arith)

@@ -10,6 +10,7 @@ use Rattle.tcl_words.specs.ListWords.{PartsInto}
 use Rattle.upf_commands.specs.CommandRows.{OptionRow, CommandRow}
 use Rattle.upf_commands.specs.CommandWords.{Item, given}
 use Rattle.upf_commands.specs.Commands.{HasKey, IsKeyed, RepeatsKey, are_apart}
+use Rattle.upf_commands.specs.Forms.{Form, ListForm, list, keyed}
 use Rattle.upf_reader.specs.Faults.{GivesKey, SomeGivesKey}
 use Rattle.upf_reader.specs.Parts.{part_view}
 use Rattle.upf_reader.specs.Readings.{HasParting, is_grouped, share_group}
@@ -76,9 +77,9 @@ none_added {X} P xs x none not_here s = by s.0 s.2 (is_added x s.0 xs s.1)
 
 pub repeats_so : (before : List Item) (o : OptionRow) (text key : List ℕ) (b : Bool) → IsKeyed o → HasKey text key → IsTrue b ↔ SomeGivesKey o key before
     → IsTrue b ↔ RepeatsKey before o text
-repeats_so before o text key b keyed h g =
+repeats_so before o text key b with_keys h g =
     (
-      λ t. let s = g.0 t in let r = s.2 in (keyed, (r.0, r.1, key, subst (λ i. IsIn i before) r.2 s.1, r.3, r.4, h)),
+      λ t. let s = g.0 t in let r = s.2 in (with_keys, (r.0, r.1, key, subst (λ i. IsIn i before) r.2 s.1, r.3, r.4, h)),
       λ r.
           let q = r.1 in
           g.1 (given q.0 q.1, q.3, (q.0, q.1, refl, q.4, subst (HasKey q.1) (one_key text q.2 key q.6 h) q.5)),
@@ -109,3 +110,11 @@ not_grouped_so row name e [] = refl
 not_grouped_so row name e (other ∷ names) =
     not_grouped_so row name e names
     ∙ ap (λ t. t || list_any (are_apart row name) names) (sym (not_and (not (bytes_eq name other)) (share_group row name other) (no_group name other row.apart e)))
+
+pub keyed_list_so : (whole : Form) (part : ListForm) (b : Bool) → whole ≡ list part → IsTrue b ↔ ((keys : List (List ℕ)) × (part ≡ keyed keys))
+    → IsTrue b ↔ ((keys : List (List ℕ)) × (whole ≡ list (keyed keys)))
+keyed_list_so whole part b e h =
+    (λ t. let p = h.0 t in (p.0, e ∙ ap list p.1), λ p. h.1 (p.0, inner part (keyed p.0) (sym e ∙ p.1)))
+  where
+    inner : (f g : ListForm) → list f ≡ list g → f ≡ g
+    inner f g e = cc

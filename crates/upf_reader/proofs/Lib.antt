@@ -1,3 +1,4 @@
+pub mod CommandLemmas
 pub mod JudgeLemmas
 pub mod KeyLemmas
 pub mod LackLemmas

@@ -1,7 +1,8 @@
 -- The parts of a command line, and how they stand in its words.
 use Rattle.std.specs.Prelude.{◌≡◌, ℕ, ◌<◌, ◌≤◌, Bool, true, false, ◌⊎◌, List, ◌∷◌, Option, Some, None, length}
 use Rattle.upf_commands.specs.CommandRows.{OptionRow, CommandRow}
-use Rattle.upf_commands.specs.CommandWords.{Item, own, given, unknown, lacking, is_option, option_of, says_truth, goes_on, IsOneName, AreItems}
+use Rattle.upf_commands.specs.CommandWords.{Item, own, given, unknown, lacking, is_option, option_of, says_truth, goes_on, IsOneName, AreItems, row_of}
+use Rattle.pw_defs.specs.declared.script.Line.{Line}
 use Rattle.upf_commands.specs.Values.{truth_of}
 use Rattle.upf_reader.specs.Rows.{option_view}
 use Rattle.upf_reader.specs.declared.parts.Part.{Part}
@@ -39,3 +40,9 @@ SaysTruth words (Some said) = (next : List ℕ) × (words ≡ next ∷ said.1) �
 abbrev pub GoesOn : CommandRow → List ℕ → List (List ℕ) → Option (List ℕ × List (List ℕ)) → Type 0
 GoesOn row first rest None = (¬ IsOneName first) ⊎ (goes_on row rest ≡ false)
 GoesOn row first rest (Some second) = IsOneName first × (rest ≡ second.0 ∷ second.1) × (goes_on row rest ≡ true)
+
+-- the line is of this command, which isn't passed over, and these words stand behind its name
+pub record IsLineOf (line : Line) (row : CommandRow) (words : List (List ℕ)) : Type 0 where
+  pub split : line.words ≡ row.name ∷ words
+  pub row_is : row_of row.name ≡ Some row
+  pub runs : row.passed ≡ false

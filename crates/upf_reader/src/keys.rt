@@ -1,9 +1,10 @@
 //! Options that give a word for a key, of which none may be given twice.
 ghost use Rattle.std.specs.Prelude.{◌≡◌, ◌↔◌, IsTrue, ℕ, List, map, IfOk, MatchOption};
 ghost use Rattle.upf_commands.specs.Commands.{IsKeyed, HasKey, RepeatsKey};
+ghost use Rattle.upf_commands.specs.Forms.{keyed};
 ghost use Rattle.upf_reader.specs.Faults.{GivesKey, SomeGivesKey};
 ghost use Rattle.upf_reader.specs.Parts.{part_view};
-ghost use Rattle.upf_reader.specs.Rows.{option_view};
+ghost use Rattle.upf_reader.specs.Rows.{list_view, option_view};
 
 use crate::partings::{Parting, parted};
 use crate::parts::Part;
@@ -11,12 +12,22 @@ use crate::table::{ListShape, OptionLine, Shape};
 use pw_defs::{Bytes, Memory};
 use std::alloc::Global;
 
+/// Whether a list of the form is a key and a word.
+fn has_keys(form: ListShape) -> bool
+    ensures { IsTrue result ↔ ((keys : List (List ℕ)) × (list_view form ≡ keyed keys)) }
+{
+    match form {
+        ListShape::Keyed(_) => true,
+        _ => false,
+    }
+}
+
 /// Whether the option gives a word for a key.
 fn is_keyed(option: &OptionLine) -> bool
     ensures { IsTrue result ↔ IsKeyed (option_view option.now) }
 {
     match option.shape {
-        Shape::List(ListShape::Keyed(_)) => true,
+        Shape::List(form) => has_keys(form),
         _ => false,
     }
 }

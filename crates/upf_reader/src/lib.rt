@@ -6,6 +6,7 @@
 
 mod apart;
 mod checks;
+mod commands;
 mod keys;
 mod lacks;
 mod lists;
@@ -14,3 +15,5 @@ mod parts;
 mod table;
 mod values;
 mod words;
+
+pub use commands::read_command;

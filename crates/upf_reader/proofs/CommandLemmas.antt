@@ -11,7 +11,10 @@ use Rattle.upf_commands.specs.CommandRows.{CommandRow}
 use Rattle.upf_commands.specs.CommandTable.{commands}
 use Rattle.upf_commands.specs.CommandWords.{Item, row_of, AreItems}
 use Rattle.upf_commands.specs.Commands.{HasItems, IsWhole, IsCommand, runs, passes, command_of, passed_command}
-use Rattle.upf_reader.specs.Parts.{IsLineOf}
+use Rattle.std.proofs.lemmas.List.{map-append}
+use Rattle.std.proofs.lemmas.List.Elements.{filter_map-append}
+use Rattle.upf_reader.specs.Parts.{IsLineOf, part_view}
+use Rattle.upf_reader.specs.declared.parts.Part.{Part}
 
 found_passes : {X : Type 0} (test : X → Bool) (xs : List X) (x : X) → find test xs ≡ Some x → test x ≡ true
 found_passes test [] x e = cc
@@ -49,3 +52,10 @@ items_of_line line row words items h k = record { words = words; split = h.split
 pub command_so : (line : Line) (row : CommandRow) (items : List Item) (c : Command) → HasItems line row items → IsWhole row items → c ≡ command_of line row items
     → IsCommand line c
 command_so line row items c h w e = subst (IsCommand line) (sym e) (runs row items h w)
+
+-- what the parts say, with one part more
+pub gathered : {Y : Type 0} (f : Item → Option Y) (parts : List Part) (part : Part) (old new : List Y) → old ≡ filter_map f (map part_view parts)
+    → new ≡ old ++ filter_map f (part_view part ∷ []) → new ≡ filter_map f (map part_view (parts ++ part ∷ []))
+gathered f parts part old new e g =
+    g ∙ ap (λ ys. ys ++ filter_map f (part_view part ∷ [])) e ∙ sym (filter_map-append f (map part_view parts) (part_view part ∷ []))
+    ∙ ap (filter_map f) (sym (map-append part_view parts (part ∷ [])))

@@ -1,9 +1,8 @@
 -- How a line is read as a command.
-use Rattle.std.proofs.Common.{◌≡◌, ◌≢◌, ℕ, Bool, true, false, cond, List, [], ◌∷◌, ◌++◌, Option, Some, None, map, filter_map, option_map, find, bytes_eq, refl, sym, ap, ◌∙◌, subst}
+use Rattle.std.proofs.Common.{◌≡◌, ℕ, Bool, true, false, cond, List, [], ◌∷◌, ◌++◌, Option, Some, None, map, filter_map, find, bytes_eq, refl, sym, ap, ◌∙◌, subst}
 use Rattle.std.specs.Cmp.Lexicographic.{bytes_decides}
 use Rattle.pw_defs.specs.declared.faults.At.{At}
-use Rattle.pw_defs.specs.declared.faults.CmdFault.{CmdFault}
-use Rattle.pw_defs.specs.declared.faults.CmdFault.TheVariants.{U1, Memory}
+use Rattle.pw_defs.specs.declared.faults.CmdFault.TheVariants.{U1}
 use Rattle.pw_defs.specs.declared.script.Command.{Command}
 use Rattle.pw_defs.specs.declared.script.Line.{Line}
 use Rattle.upf_commands.specs.CommandFaults.{HasCommandFault, no_command, named}

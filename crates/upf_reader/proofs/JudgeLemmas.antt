@@ -1,19 +1,19 @@
 -- How the items of a line are judged one by one.
-use Rattle.std.proofs.Common.{◌≡◌, ◌↔◌, ◌<◌, ◌+◌, ℕ, zero, suc, Bool, true, false, ◌||◌, ◌⊎◌, inl, inr, List, [], ◌∷◌, ◌++◌, Option, Some, None, is_some, not, ◌&&◌, MatchOption, IsTrue, length, get_or, take, drop, map, filter_map, codes, refl, sym, ap, ◌∙◌, subst, arith, append_assoc, append-nil}
-use Rattle.std.proofs.lemmas.Bool.{false≢true, true≢false}
+use Rattle.std.proofs.Common.{◌≡◌, ◌<◌, ℕ, zero, suc, Bool, true, false, List, [], ◌∷◌, ◌++◌, Option, Some, None, is_some, not, ◌&&◌, MatchOption, length, get_or, take, drop, map, filter_map, codes, refl, sym, ap, ◌∙◌, subst, arith, append_assoc, append-nil}
+use Rattle.std.proofs.lemmas.Bool.{true≢false}
 use Rattle.list_defs.specs.Members.{IsIn}
 use Rattle.pw_defs.specs.declared.faults.At.{At}
 use Rattle.pw_defs.specs.declared.faults.TclFault.TheVariants.{T1 as Unclosed, T2 as AfterWord}
 use Rattle.pw_defs.specs.declared.faults.CmdFault.TheVariants.{U2, U3, U4, T1, T2}
 use Rattle.pw_defs.specs.declared.script.Line.{Line}
 use Rattle.upf_commands.proofs.CommandLaws.{good_or_bad}
-use Rattle.upf_commands.proofs.CommandReading.{EachBehind, AreGood, none_bad, whole}
-use Rattle.upf_commands.specs.CommandFaults.{IsBad, again, key, form, surplus, own_form, IsFirstBad, HasUnclosed, HasAfterWord, HasCommandFault, no_option, absent, misformed, unclosed, after_word, named, shown}
+use Rattle.upf_commands.proofs.CommandReading.{EachBehind, none_bad, whole}
+use Rattle.upf_commands.specs.CommandFaults.{IsBad, again, key, form, IsFirstBad, HasUnclosed, HasAfterWord, HasCommandFault, no_option, absent, misformed, unclosed, after_word, named, shown}
 use Rattle.upf_commands.specs.CommandRows.{OptionRow, CommandRow}
 use Rattle.upf_commands.specs.CommandWords.{Item, own, given, unknown, lacking}
-use Rattle.upf_commands.specs.Commands.{IsGood, good_own, good_option, HasItems, IsWhole, RepeatsKey, may_give, may_own, lacking_option, own_word, unknown_word, unknown_words, missing}
+use Rattle.upf_commands.specs.Commands.{IsGood, good_option, HasItems, IsWhole, RepeatsKey, may_give, may_own, lacking_option, own_word, unknown_word, unknown_words, missing}
 use Rattle.std.specs.List.{list_any}
-use Rattle.upf_commands.specs.Forms.{WordForm, IsWordOf, HasFormFault, IsMisformed}
+use Rattle.upf_commands.specs.Forms.{WordForm, HasFormFault, IsMisformed}
 use Rattle.upf_reader.specs.Faults.{both, IsFormed}
 use Rattle.upf_reader.specs.Judging.{IsUnclosed, IsAfterWord, IsItemFormed, AreItemsFormed}
 use Rattle.upf_reader.specs.Parts.{part_view}

@@ -1,8 +1,8 @@
 -- Options that give words for keys, and options of which a command takes at most one.
-use Rattle.std.proofs.Common.{◌≡◌, ◌↔◌, ◌<◌, ◌+◌, ℕ, zero, suc, Bool, true, false, not, ◌&&◌, ◌||◌, ◌⊎◌, inl, inr, List, [], ◌∷◌, ◌++◌, Option, Some, None, IsTrue, length, get_or, take, map, slice_get, refl, sym, ap, ◌∙◌, subst, arith, bytes_eq}
+use Rattle.std.proofs.Common.{◌≡◌, ◌↔◌, ◌<◌, ◌+◌, ℕ, zero, suc, Bool, true, false, not, ◌&&◌, ◌||◌, ◌⊎◌, inl, inr, List, [], ◌∷◌, ◌++◌, Some, None, IsTrue, length, get_or, take, map, slice_get, refl, sym, ap, ◌∙◌, subst, arith, bytes_eq}
 use Rattle.std.specs.Cmp.Lexicographic.{bytes_decides}
 use Rattle.std.specs.List.{list_any}
-use Rattle.std.proofs.lemmas.Bool.{false≢true, true≢false}
+use Rattle.std.proofs.lemmas.Bool.{true≢false}
 use Rattle.std.proofs.lemmas.List.{take_more, map-append}
 use Rattle.list_defs.specs.Members.{IsIn}
 use Rattle.tcl_words.proofs.ListLaws.{one_parting, parts_or_fault}
@@ -39,21 +39,19 @@ one_key : (text key other : List ℕ) → HasKey text key → HasKey text other 
 one_key text key other h k = let same : key ∷ h.0 ≡ other ∷ k.0 = one_parting text (key ∷ h.0) (other ∷ k.0) h.1 k.1 in cc
 
 pub same_key_so : (text other s key : List ℕ) (b : Bool) → HasKey text other → s ≡ other → b ≡ bytes_eq s key → IsTrue b ↔ HasKey text key
-same_key_so text other s key b h e f =
-    (
-      λ t. subst (HasKey text) (sym e ∙ (bytes_decides s key).0 (sym f ∙ t)) h,
-      λ k. f ∙ (bytes_decides s key).1 (e ∙ one_key text other key h k),
-    )
+same_key_so text other s key b h e f = (
+  λ t. subst (HasKey text) (sym e ∙ (bytes_decides s key).0 (sym f ∙ t)) h,
+  λ k. f ∙ (bytes_decides s key).1 (e ∙ one_key text other key h k),
+)
 
 pub gives_so : (o p : OptionRow) (key v : List ℕ) (item : Item) (b : Bool) → item ≡ given p v → p.kept ≡ o.kept → IsTrue b ↔ HasKey v key → IsTrue b ↔ GivesKey o key item
-gives_so o p key v item b e f h =
-    (
-      λ t. (p, v, e, f, h.0 t),
-      λ g.
-          let same : given p v ≡ given g.0 g.1 = sym e ∙ g.2 in
-          let texts : g.1 ≡ v = cc in
-          h.1 (subst (λ w. HasKey w key) texts g.4),
-    )
+gives_so o p key v item b e f h = (
+  λ t. (p, v, e, f, h.0 t),
+  λ g.
+      let same : given p v ≡ given g.0 g.1 = sym e ∙ g.2 in
+      let texts : g.1 ≡ v = cc in
+      h.1 (subst (λ w. HasKey w key) texts g.4),
+)
 
 pub equal_names : (a b : List ℕ) (t : Bool) → t ≡ bytes_eq a b → t ≡ true → a ≡ b
 equal_names a b t e f = (bytes_decides a b).0 (sym e ∙ f)
@@ -77,13 +75,12 @@ none_added {X} P xs x none not_here s = by s.0 s.2 (is_added x s.0 xs s.1)
 
 pub repeats_so : (before : List Item) (o : OptionRow) (text key : List ℕ) (b : Bool) → IsKeyed o → HasKey text key → IsTrue b ↔ SomeGivesKey o key before
     → IsTrue b ↔ RepeatsKey before o text
-repeats_so before o text key b with_keys h g =
-    (
-      λ t. let s = g.0 t in let r = s.2 in (with_keys, (r.0, r.1, key, subst (λ i. IsIn i before) r.2 s.1, r.3, r.4, h)),
-      λ r.
-          let q = r.1 in
-          g.1 (given q.0 q.1, q.3, (q.0, q.1, refl, q.4, subst (HasKey q.1) (one_key text q.2 key q.6 h) q.5)),
-    )
+repeats_so before o text key b with_keys h g = (
+  λ t. let s = g.0 t in let r = s.2 in (with_keys, (r.0, r.1, key, subst (λ i. IsIn i before) r.2 s.1, r.3, r.4, h)),
+  λ r.
+      let q = r.1 in
+      g.1 (given q.0 q.1, q.3, (q.0, q.1, refl, q.4, subst (HasKey q.1) (one_key text q.2 key q.6 h) q.5)),
+)
 
 pub no_repeats : (before : List Item) (o : OptionRow) (text : List ℕ) → ((key : List ℕ) → ¬ HasKey text key) → IsTrue false ↔ RepeatsKey before o text
 no_repeats before o text none = says_no false refl (λ r. none r.1.2 r.1.6)

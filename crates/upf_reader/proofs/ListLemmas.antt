@@ -1,5 +1,5 @@
 -- What tests of lists say.
-use Rattle.std.proofs.Common.{◌≡◌, ◌↔◌, ℕ, suc, Bor, ◌==◌, ◌<◌, ◌≤◌, Bool, true, false, not, ◌&&◌, ◌||◌, cond, List, [], ◌∷◌, ◌++◌, inl, inr, ◌⊎◌, Option, Some, None, IsTrue, codes, length, get_or, take, take_all, drop, ◌-◌, refl, sym, ap, ◌∙◌, subst, arith, bytes_eq, append_assoc, append-nil, map}
+use Rattle.std.proofs.Common.{◌≡◌, ◌↔◌, ℕ, Bor, ◌==◌, ◌<◌, ◌≤◌, Bool, true, false, not, ◌&&◌, ◌||◌, cond, List, [], ◌∷◌, ◌++◌, Option, Some, None, IsTrue, codes, length, get_or, take, take_all, drop, ◌-◌, refl, sym, ap, ◌∙◌, subst, arith, bytes_eq, append_assoc, append-nil, map}
 use Rattle.std.specs.Cmp.Lexicographic.{bytes_decides}
 use Rattle.std.specs.List.{list_any, flat_map}
 use Rattle.std.proofs.lemmas.Bool.{false≢true, true≢false}
@@ -10,11 +10,11 @@ use Rattle.pw_defs.specs.declared.values.Value.TheVariants.{Off, On}
 use Rattle.tcl_words.proofs.VariableNames.{and_first, and_second}
 use Rattle.text_defs.specs.Volts.{IsVolts}
 use Rattle.upf_commands.specs.Forms.{AreListOf, keyed, power_state}
-use Rattle.upf_commands.specs.Values.{is_simple, StateOption, supply_expr, logic_expr, simstate, legal, illegal, state_word, state_words, AreStateOptions}
+use Rattle.upf_commands.specs.Values.{is_simple, StateOption, supply_expr, logic_expr, simstate, legal, illegal, state_word, state_words}
 use Rattle.upf_commands.specs.Voltages.{IsVoltage, one, two, three, IsValue, off, on}
 use Rattle.upf_reader.specs.Rows.{texts_view}
 use Rattle.upf_reader.specs.Tests.{is_keyed, is_off, takes_text, is_mark, behind_option, are_options}
-use Rattle.upf_reader.proofs.WordLemmas.{says_yes, says_no}
+use Rattle.upf_reader.proofs.WordLemmas.{says_no}
 
 -- the words of a list that has one, two or three
 pub one_item : {X : Type 0} (xs : List X) (d : X) → 1 ≤ length xs → length xs < 2 → xs ≡ get_or xs 0 d ∷ []
@@ -224,14 +224,13 @@ options_back seen (o ∷ options) once =
 -- a power state
 pub power_state_so : (words : List (List ℕ)) (state : List ℕ) (rest : List (List ℕ)) → words ≡ state ∷ rest → is_simple state ≡ true → (b : Bool)
     → b ≡ are_options [] rest → IsTrue b ↔ AreListOf power_state words
-power_state_so words state rest split simple b e =
-    (
-      λ t. let new = options_so [] rest refl (sym e ∙ t) in (state, rest, new.options, split, simple, record { spelled = new.spelled; once = new.once }),
-      λ h.
-          let same : h.1 ≡ rest = (let f = h.3 in cc) in
-          let spelled : rest ≡ flat_map state_words h.2 = sym same ∙ h.5.spelled in
-          e ∙ ap (are_options []) spelled ∙ options_back [] h.2 h.5.once,
-    )
+power_state_so words state rest split simple b e = (
+  λ t. let new = options_so [] rest refl (sym e ∙ t) in (state, rest, new.options, split, simple, record { spelled = new.spelled; once = new.once }),
+  λ h.
+      let same : h.1 ≡ rest = (let f = h.3 in cc) in
+      let spelled : rest ≡ flat_map state_words h.2 = sym same ∙ h.5.spelled in
+      e ∙ ap (are_options []) spelled ∙ options_back [] h.2 h.5.once,
+)
 
 -- a list that isn't empty
 pub first_words : (words : List (List ℕ)) → false ≡ (length words == 0) → (word : List ℕ) × (rest : List (List ℕ)) × (words ≡ word ∷ rest)

@@ -1,5 +1,5 @@
 -- How a row is found in the groups of the table.
-use Rattle.std.proofs.Common.{◌≡◌, ℕ, suc, ◌+◌, ◌<◌, Bool, true, false, cond, List, [], ◌∷◌, ◌++◌, Option, Some, None, find, bytes_eq, refl, sym, ap, ◌∙◌, map, option_map, length, get_or, drop, drop-cons, add-one, Bor}
+use Rattle.std.proofs.Common.{◌≡◌, ℕ, suc, ◌+◌, ◌<◌, Bool, true, false, cond, List, [], ◌∷◌, ◌++◌, Option, Some, None, find, bytes_eq, refl, sym, ap, ◌∙◌, map, length, get_or, drop, drop-cons, add-one, Bor}
 use Rattle.upf_reader.specs.Rows.{command_view, rows_of}
 use Rattle.upf_reader.specs.declared.table.CommandLine.{CommandLine}
 use Rattle.upf_commands.specs.CommandRows.{OptionRow, CommandRow}

@@ -9,8 +9,8 @@ use Rattle.pw_defs.specs.declared.faults.TclFault.{TclFault}
 use Rattle.pw_defs.specs.declared.faults.TclFault.TheVariants.{T1, T2}
 use Rattle.tcl_words.proofs.ListLaws.{one_parting, one_list_fault, parts_or_fault}
 use Rattle.tcl_words.specs.ListWords.{PartsInto, HasListFault}
-use Rattle.upf_commands.specs.Forms.{WordForm, ListForm, Form, word, list, pair, pairs, IsWordOf, AreListOf, HasForm, IsMisformed, HasFormFault}
-use Rattle.upf_commands.specs.Values.{IsPair, ArePairs}
+use Rattle.upf_commands.specs.Forms.{WordForm, ListForm, word, list, pair, pairs, IsWordOf, AreListOf, HasForm, IsMisformed, HasFormFault}
+use Rattle.upf_commands.specs.Values.{IsPair}
 use Rattle.upf_reader.specs.Faults.{both, IsFormed, HasMisformedPair, ArePairsFormed}
 use Rattle.upf_reader.specs.declared.values.OpenLists.{OpenLists}
 use Rattle.upf_reader.proofs.WordLemmas.{says_yes, says_no}

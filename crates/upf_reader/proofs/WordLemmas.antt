@@ -1,8 +1,8 @@
 -- What tests of words say.
-use Rattle.std.proofs.Common.{◌≡◌, ◌≢◌, ◌↔◌, ℕ, ◌+◌, ◌-◌, ◌==◌, Bool, true, false, not, List, [], ◌∷◌, ◌++◌, inl, inr, Option, Some, None, MatchOption, IsTrue, codes, length, length-append, take, drop, refl, sym, ap, ◌∙◌, subst, cond, eqb, arith, bytes_eq, Bor}
+use Rattle.std.proofs.Common.{◌≡◌, ◌≢◌, ◌↔◌, ℕ, ◌+◌, ◌-◌, ◌==◌, Bool, true, false, not, List, [], ◌∷◌, ◌++◌, Option, Some, None, MatchOption, IsTrue, codes, length, length-append, take, drop, refl, sym, ap, ◌∙◌, subst, eqb, arith, bytes_eq, Bor}
 use Rattle.std.specs.Cmp.Lexicographic.{pointwise}
 use Rattle.std.specs.List.{list_any}
-use Rattle.std.proofs.lemmas.Bool.{false≢true, true≢false, eqb-true, eq-eqb}
+use Rattle.std.proofs.lemmas.Bool.{true≢false, eqb-true, eq-eqb}
 use Rattle.std.proofs.lemmas.Bool.Decides.{Decides-eqb}
 use Rattle.std.proofs.lemmas.Slice.Eq.{strip_suffix_is}
 use Rattle.list_defs.proofs.NameLemmas.{IsIn-list_any, list_any-IsIn}

@@ -1,10 +1,10 @@
 -- What keeps a value from having its form, and a line from being a command.
-use Rattle.std.specs.Prelude.{◌≡◌, ℕ, false, ◌||◌, ◌↔◌, IsTrue, List, [], None, Option, Some, filter_map}
+use Rattle.std.specs.Prelude.{◌≡◌, ℕ, false, ◌||◌, ◌↔◌, IsTrue, List}
 use Rattle.list_defs.specs.Members.{IsIn}
 use Rattle.pw_defs.specs.declared.faults.At.{At}
 use Rattle.pw_defs.specs.declared.faults.TclFault.TheVariants.{T1, T2}
 use Rattle.tcl_words.specs.ListWords.{HasListFault}
-use Rattle.upf_commands.specs.CommandRows.{OptionRow, CommandRow}
+use Rattle.upf_commands.specs.CommandRows.{OptionRow}
 use Rattle.upf_commands.specs.CommandWords.{Item, given}
 use Rattle.upf_commands.specs.Commands.{HasKey}
 use Rattle.upf_commands.specs.Forms.{Form, list, pair, HasForm, IsMisformed, HasFormFault}

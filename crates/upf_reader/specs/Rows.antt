@@ -1,5 +1,5 @@
 -- The rows of the table in code, as the definitions see them.
-use Rattle.std.specs.Prelude.{ℕ, List, [], ◌∷◌, ◌++◌, Option, map, option_map}
+use Rattle.std.specs.Prelude.{ℕ, List, [], ◌∷◌, ◌++◌, map, option_map}
 use Rattle.std.specs.Borrow.{Bor}
 use Rattle.upf_commands.specs.CommandRows.{Arity, value, flag, truth, means, state, OptionRow, CommandRow}
 use Rattle.upf_commands.specs.Forms.{WordForm, any, simple, set_name, handle, file, one_of, volts, ListForm, names, scope, columns, keyed, pair, attribute, switch_port, on_state, supply_state, power_state, Form, word, list, pairs}

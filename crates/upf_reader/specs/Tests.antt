@@ -1,8 +1,8 @@
 -- What the tests of words and lists say yes to.
 use Rattle.std.specs.Prelude.{◌≡◌, ℕ, Bool, true, false, not, ◌&&◌, ◌||◌, List, [], ◌∷◌, ◌++◌, Option, Some, None, codes, is_some, if◌then◌else◌}
-use Rattle.std.specs.List.{list_all, list_any}
+use Rattle.std.specs.List.{list_any}
 use Rattle.std.specs.Str.{bytes_eq}
-use Rattle.upf_commands.specs.Forms.{ListForm, names, scope, columns, keyed, pair, attribute, switch_port, on_state, supply_state, power_state, is_column, macro_mark}
+use Rattle.upf_commands.specs.Forms.{macro_mark}
 use Rattle.upf_commands.specs.Values.{is_simple, truth_of, Handle, IsHandle}
 
 -- the word is a handle of some domain

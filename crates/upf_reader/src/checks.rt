@@ -70,9 +70,7 @@ fn part_formed(
 {
     match part {
         Part::Own(word) => Ok(own_formed(row, before, word.as_slice())),
-        Part::Given(option, value) => {
-            given_formed(alloc, row, before, option, value.as_slice())
-        }
+        Part::Given(option, value) => { given_formed(alloc, row, before, option, value.as_slice()) }
         _ => Ok(Some(OpenLists::none())),
     }
 }
@@ -97,11 +95,7 @@ pub(crate) enum Judged<'a> {
 }
 
 /// Judges the parts one by one.
-fn judge<'a>(
-    alloc: Global,
-    row: &'a CommandLine,
-    parts: &'a [Part],
-) -> Result<Judged<'a>, Memory>
+fn judge<'a>(alloc: Global, row: &'a CommandLine, parts: &'a [Part]) -> Result<Judged<'a>, Memory>
     ensures { IfOk result (Judges (command_view row.now) (map part_view parts.now)) }
 {
     let mut lists = OpenLists::none();

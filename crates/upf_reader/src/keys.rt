@@ -56,12 +56,7 @@ fn has_key(alloc: Global, text: &[u8], key: &[u8]) -> Result<bool, Memory>
 }
 
 /// Whether the part gives this option a word for the key.
-fn gives_key(
-    alloc: Global,
-    option: &OptionLine,
-    key: &[u8],
-    part: &Part,
-) -> Result<bool, Memory>
+fn gives_key(alloc: Global, option: &OptionLine, key: &[u8], part: &Part) -> Result<bool, Memory>
     ensures { IfOk result (λ gives. IsTrue gives ↔ GivesKey (option_view option.now) key.now (part_view part.now)) }
 {
     match part {
@@ -77,12 +72,7 @@ fn gives_key(
 }
 
 /// Whether one of the parts gives this option a word for the key.
-fn give_key(
-    alloc: Global,
-    option: &OptionLine,
-    key: &[u8],
-    parts: &[Part],
-) -> Result<bool, Memory>
+fn give_key(alloc: Global, option: &OptionLine, key: &[u8], parts: &[Part]) -> Result<bool, Memory>
     ensures { IfOk result (λ give. IsTrue give ↔ SomeGivesKey (option_view option.now) key.now (map part_view parts.now)) }
 {
     for part in parts {

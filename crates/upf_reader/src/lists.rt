@@ -242,11 +242,7 @@ fn is_power_state(alloc: Global, words: &[Bytes]) -> Result<bool, Memory>
 }
 
 /// Whether the words have the form.
-pub(crate) fn has_list_form(
-    alloc: Global,
-    form: ListShape,
-    words: &[Bytes],
-) -> Result<bool, Memory>
+pub(crate) fn has_list_form(alloc: Global, form: ListShape, words: &[Bytes]) -> Result<bool, Memory>
     ensures { IfOk result (λ has. IsTrue has ↔ AreListOf (list_view form) words.now) }
 {
     Ok(match form {

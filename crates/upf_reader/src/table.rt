@@ -223,109 +223,191 @@ macro_rules! passed_over {
 
 /// Supply ports and nets, and how they are joined.
 static SUPPLY: [CommandLine; 4] = [
-    command!(b"create_supply_port", Simple, [
-        may!(b"-direction", word!(OneOf, b"in", b"out")),
-        may!(b"-domain", word!(Any))
-    ]),
-    command!(b"create_supply_net", Simple, [
-        may!(b"-domain", word!(Any)),
-        may!(b"-resolve", word!(OneOf, b"unresolved"))
-    ]),
+    command!(
+        b"create_supply_port",
+        Simple,
+        [
+            may!(b"-direction", word!(OneOf, b"in", b"out")),
+            may!(b"-domain", word!(Any))
+        ]
+    ),
+    command!(
+        b"create_supply_net",
+        Simple,
+        [
+            may!(b"-domain", word!(Any)),
+            may!(b"-resolve", word!(OneOf, b"unresolved"))
+        ]
+    ),
     command!(b"connect_supply_net", Any, [must!(b"-ports", list!(Names))]),
-    command!(b"create_power_switch", Simple, [
-        must!(b"-output_supply_port", list!(SwitchPort)),
-        some!(b"-input_supply_port", list!(SwitchPort)),
-        some!(b"-on_state", list!(OnState)),
-        often!(b"-off_state", word!(Any)),
-        often!(b"-control_port", word!(Any)),
-        often!(b"-ack_port", word!(Any)),
-        often!(b"-ack_delay", word!(Any)),
-        often!(b"-error_state", word!(Any)),
-        may!(b"-domain", word!(Any))
-    ]),
+    command!(
+        b"create_power_switch",
+        Simple,
+        [
+            must!(b"-output_supply_port", list!(SwitchPort)),
+            some!(b"-input_supply_port", list!(SwitchPort)),
+            some!(b"-on_state", list!(OnState)),
+            often!(b"-off_state", word!(Any)),
+            often!(b"-control_port", word!(Any)),
+            often!(b"-ack_port", word!(Any)),
+            often!(b"-ack_delay", word!(Any)),
+            often!(b"-error_state", word!(Any)),
+            may!(b"-domain", word!(Any))
+        ]
+    ),
 ];
 
 /// Supply sets.
 static SETS: [CommandLine; 3] = [
-    command!(b"create_supply_set", SetName, [
-        often!(b"-function", list!(Keyed, b"power", b"ground")),
-        bare!(b"-update")
-    ]),
-    command!(b"associate_supply_set", Any, [must!(b"-handle", word!(Handle))]),
-    command!(b"connect_supply_set", Any, [must!(b"-elements", list!(Names))]),
+    command!(
+        b"create_supply_set",
+        SetName,
+        [
+            often!(b"-function", list!(Keyed, b"power", b"ground")),
+            bare!(b"-update")
+        ]
+    ),
+    command!(
+        b"associate_supply_set",
+        Any,
+        [must!(b"-handle", word!(Handle))]
+    ),
+    command!(
+        b"connect_supply_set",
+        Any,
+        [must!(b"-elements", list!(Names))]
+    ),
 ];
 
 /// The states of supplies and tables of states.
 static TABLES: [CommandLine; 4] = [
-    command!(b"add_port_state", Any, [some!(b"-state", list!(SupplyState))]),
-    command!(b"add_supply_state", Any, [some!(b"-state", list!(SupplyState))]),
+    command!(
+        b"add_port_state",
+        Any,
+        [some!(b"-state", list!(SupplyState))]
+    ),
+    command!(
+        b"add_supply_state",
+        Any,
+        [some!(b"-state", list!(SupplyState))]
+    ),
     command!(b"create_pst", Simple, [must!(b"-supplies", list!(Names))]),
-    command!(b"add_pst_state", Simple, [
-        must!(b"-pst", word!(Any)),
-        must!(b"-state", list!(Columns))
-    ]),
+    command!(
+        b"add_pst_state",
+        Simple,
+        [must!(b"-pst", word!(Any)), must!(b"-state", list!(Columns))]
+    ),
 ];
 
 /// Power states.
 static STATES: [CommandLine; 2] = [
     command!(b"create_power_state_group", Simple, []),
-    command!(b"add_power_state", Any, [
-        bare!(b"-supply"),
-        bare!(b"-domain"),
-        bare!(b"-group"),
-        option!(b"-state", b"-state", Behind::State, list!(PowerState), true, false),
-        bare!(b"-complete"),
-        bare!(b"-update")
-    ], [b"-supply", b"-domain", b"-group"]),
+    command!(
+        b"add_power_state",
+        Any,
+        [
+            bare!(b"-supply"),
+            bare!(b"-domain"),
+            bare!(b"-group"),
+            option!(
+                b"-state",
+                b"-state",
+                Behind::State,
+                list!(PowerState),
+                true,
+                false
+            ),
+            bare!(b"-complete"),
+            bare!(b"-update")
+        ],
+        [b"-supply", b"-domain", b"-group"]
+    ),
 ];
 
 /// Domains and strategies.
 static DOMAINS: [CommandLine; 3] = [
-    command!(b"create_power_domain", Simple, [
-        may!(b"-elements", list!(Names)),
-        may!(b"-exclude_elements", list!(Names)),
-        option!(b"-include_scope", b"-elements", Behind::Means(b"."), list!(Names), false, false),
-        often!(b"-supply", list!(Keyed, b"primary", b"default_isolation")),
-        bare!(b"-update")
-    ]),
-    strategy!(b"set_isolation", [
-        may!(b"-isolation_supply", word!(Any)),
-        option!(b"-isolation_supply_set", b"-isolation_supply", Behind::Value, word!(Any), false, false),
-        bare!(b"-no_isolation"),
-        bare!(b"-force_isolation"),
-        may!(b"-isolation_signal", word!(Any)),
-        may!(b"-isolation_sense", word!(Any)),
-        may!(b"-clamp_value", word!(Any)),
-        may!(b"-location", word!(Any)),
-        may!(b"-name_prefix", word!(Any)),
-        may!(b"-name_suffix", word!(Any))
-    ], [b"-no_isolation", b"-force_isolation"]),
-    strategy!(b"set_level_shifter", [
-        may!(b"-rule", word!(OneOf, b"low_to_high", b"high_to_low", b"both")),
-        may!(b"-threshold", word!(Volts)),
-        bare!(b"-no_shift"),
-        bare!(b"-force_shift"),
-        may!(b"-input_supply", word!(Any)),
-        may!(b"-output_supply", word!(Any)),
-        may!(b"-location", word!(Any)),
-        may!(b"-name_prefix", word!(Any)),
-        may!(b"-name_suffix", word!(Any))
-    ], [b"-no_shift", b"-force_shift"]),
+    command!(
+        b"create_power_domain",
+        Simple,
+        [
+            may!(b"-elements", list!(Names)),
+            may!(b"-exclude_elements", list!(Names)),
+            option!(
+                b"-include_scope",
+                b"-elements",
+                Behind::Means(b"."),
+                list!(Names),
+                false,
+                false
+            ),
+            often!(b"-supply", list!(Keyed, b"primary", b"default_isolation")),
+            bare!(b"-update")
+        ]
+    ),
+    strategy!(
+        b"set_isolation",
+        [
+            may!(b"-isolation_supply", word!(Any)),
+            option!(
+                b"-isolation_supply_set",
+                b"-isolation_supply",
+                Behind::Value,
+                word!(Any),
+                false,
+                false
+            ),
+            bare!(b"-no_isolation"),
+            bare!(b"-force_isolation"),
+            may!(b"-isolation_signal", word!(Any)),
+            may!(b"-isolation_sense", word!(Any)),
+            may!(b"-clamp_value", word!(Any)),
+            may!(b"-location", word!(Any)),
+            may!(b"-name_prefix", word!(Any)),
+            may!(b"-name_suffix", word!(Any))
+        ],
+        [b"-no_isolation", b"-force_isolation"]
+    ),
+    strategy!(
+        b"set_level_shifter",
+        [
+            may!(
+                b"-rule",
+                word!(OneOf, b"low_to_high", b"high_to_low", b"both")
+            ),
+            may!(b"-threshold", word!(Volts)),
+            bare!(b"-no_shift"),
+            bare!(b"-force_shift"),
+            may!(b"-input_supply", word!(Any)),
+            may!(b"-output_supply", word!(Any)),
+            may!(b"-location", word!(Any)),
+            may!(b"-name_prefix", word!(Any)),
+            may!(b"-name_suffix", word!(Any))
+        ],
+        [b"-no_shift", b"-force_shift"]
+    ),
 ];
 
 /// Marks and attributes.
 static ATTRIBUTES: [CommandLine; 2] = [
-    wordless!(b"set_design_attributes", false, [
-        must!(b"-elements", list!(Scope)),
-        either!(b"-is_soft_macro"),
-        often!(b"-attribute", list!(Attribute))
-    ]),
-    wordless!(b"set_port_attributes", false, [
-        must!(b"-ports", list!(Names)),
-        may!(b"-driver_supply", word!(Any)),
-        may!(b"-receiver_supply", word!(Any)),
-        often!(b"-attribute", list!(Pair))
-    ]),
+    wordless!(
+        b"set_design_attributes",
+        false,
+        [
+            must!(b"-elements", list!(Scope)),
+            either!(b"-is_soft_macro"),
+            often!(b"-attribute", list!(Attribute))
+        ]
+    ),
+    wordless!(
+        b"set_port_attributes",
+        false,
+        [
+            must!(b"-ports", list!(Names)),
+            may!(b"-driver_supply", word!(Any)),
+            may!(b"-receiver_supply", word!(Any)),
+            often!(b"-attribute", list!(Pair))
+        ]
+    ),
 ];
 
 /// Files, scopes and power models.
@@ -334,10 +416,14 @@ static SCOPES: [CommandLine; 5] = [
     command!(b"set_scope", Any, []),
     command!(b"begin_power_model", Simple, [may!(b"-for", list!(Names))]),
     wordless!(b"end_power_model", false, []),
-    command!(b"apply_power_model", Any, [
-        must!(b"-elements", list!(Names)),
-        may!(b"-supply_map", Shape::Pairs)
-    ]),
+    command!(
+        b"apply_power_model",
+        Any,
+        [
+            must!(b"-elements", list!(Names)),
+            may!(b"-supply_map", Shape::Pairs)
+        ]
+    ),
 ];
 
 /// The commands that are passed over.

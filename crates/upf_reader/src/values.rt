@@ -41,11 +41,7 @@ impl OpenLists {
 }
 
 /// Which open lists the list is; `None` where it has another form.
-fn list_formed(
-    alloc: Global,
-    form: ListShape,
-    text: &[u8],
-) -> Result<Option<OpenLists>, Memory>
+fn list_formed(alloc: Global, form: ListShape, text: &[u8]) -> Result<Option<OpenLists>, Memory>
     ensures { IfOk result (λ r. MatchOption r (IsMisformed (list (list_view form)) text.now) (IsFormed (list (list_view form)) text.now)) }
 {
     match parted(alloc, text)? {

@@ -1,4 +1,4 @@
-use Rattle.std.proofs.Common.{map, subst, codes}
+use Rattle.std.proofs.Common.{map, subst}
 use Rattle.upf_reader.specs.Judging.{Judges}
 use Rattle.upf_reader.specs.Parts.{part_view}
 use Rattle.upf_reader.specs.Rows.{command_view}

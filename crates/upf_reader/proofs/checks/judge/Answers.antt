@@ -22,8 +22,7 @@ returns-in_default c =
     let bad = subst (λ (r : Option OpenLists). MatchOption r (IsBad row before (part_view part)) (IsItemFormed row before (part_view part))) c.in_default.is c.in_ok-more.ensures in
     let split : map part_view parts ≡ before ++ part_view part ∷ after =
     parts_split parts at part c.loop-at-test.true ∙ ap (λ (p : Part). before ++ part_view p ∷ after) (sym c.index-parts-at.is) in
-    let same : other ≡ part = c.index-parts-at-in_default.is ∙ same_item parts at other part c.loop-at-test.true ∙ sym c.index-parts-at.is in
-    (
+    let same : other ≡ part = c.index-parts-at-in_default.is ∙ same_item parts at other part c.loop-at-test.true ∙ sym c.index-parts-at.is in (
       part_view part,
       bad_first row before (part_view part) after (map part_view parts) c.loop-at.lists split c.loop-at.invariant bad,
       c.shown.ensures ∙ ap (λ (p : Part). shown row (part_view p)) same,

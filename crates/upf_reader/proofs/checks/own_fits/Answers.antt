@@ -1,4 +1,4 @@
-use Rattle.std.proofs.Common.{map, ap, sym, ◌∙◌, is_some, option_map, subst, not}
+use Rattle.std.proofs.Common.{map, ap, sym, ◌∙◌, option_map}
 use Rattle.std.proofs.lemmas.Bool.{true≢false}
 use Rattle.upf_commands.specs.CommandFaults.{surplus, own_form}
 use Rattle.upf_commands.specs.Commands.{good_own}

@@ -6,5 +6,5 @@ pub loop-part-preserved : goal.loop-part-preserved
 loop-part-preserved c = (
   gathered own_word c.loop-part.yielded c.in-Some.part c.loop-part.args c.put_part.new.args c.loop-part.invariant.0 c.in_ok-put_part.ensures.args,
   gathered (given_option c.args.line.now) c.loop-part.yielded c.in-Some.part c.loop-part.given c.put_part.new.options c.loop-part.invariant.1
-  c.in_ok-put_part.ensures.options,
+      c.in_ok-put_part.ensures.options,
 )

@@ -1,4 +1,4 @@
-use Rattle.std.proofs.Common.{◌↔◌, IsTrue, List, true, refl, ap, sym, ◌∙◌, subst, map, take}
+use Rattle.std.proofs.Common.{List, true, refl, sym, ◌∙◌, subst, map, take}
 use Rattle.std.proofs.lemmas.Bool.{true≢false}
 use Rattle.list_defs.specs.Members.{IsIn}
 use Rattle.upf_commands.specs.CommandWords.{Item}
@@ -15,7 +15,7 @@ returns-then-branch c =
     says_yes true refl (
       part_view c.part-item.result,
       subst (λ (p : Part). IsIn (part_view p) (map part_view c.args.parts.now)) (sym c.part-item.is)
-      (part_there c.args.parts.now c.loop-part.part-index c.part-item.result c.loop-part-test.true),
+          (part_there c.args.parts.now c.loop-part.part-index c.part-item.result c.loop-part-test.true),
       c.in_ok-gives_key.ensures.0 c.if-branch.true,
     )
 

@@ -1,4 +1,4 @@
-use Rattle.std.proofs.Common.{◌↔◌, IsTrue, List, ℕ, ap, ◌∙◌, subst}
+use Rattle.std.proofs.Common.{◌↔◌, IsTrue, List, ℕ, ap, subst}
 use Rattle.std.proofs.lemmas.Result.{IfOk-weaker}
 use Rattle.upf_commands.specs.Commands.{HasKey}
 use Rattle.upf_reader.specs.Faults.{GivesKey}

@@ -1,4 +1,4 @@
-use Rattle.std.proofs.Common.{subst, sym, Some}
+use Rattle.std.proofs.Common.{subst, sym}
 use Rattle.upf_commands.specs.Commands.{HasKey}
 use Rattle.upf_reader.specs.Readings.{HasParting}
 use Rattle.upf_reader.proofs.KeyLemmas.{no_key_so, empty_so, first_so}

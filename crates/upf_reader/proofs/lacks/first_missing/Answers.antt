@@ -1,4 +1,4 @@
-use Rattle.std.proofs.Common.{ap, sym, ◌∙◌, map, option_map}
+use Rattle.std.proofs.Common.{sym, ◌∙◌, map}
 use Rattle.upf_reader.specs.Parts.{part_view}
 use Rattle.upf_reader.specs.Rows.{command_view}
 use Rattle.upf_reader.proofs.LackLemmas.{own_first, option_first}

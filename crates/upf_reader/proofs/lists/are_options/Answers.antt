@@ -1,4 +1,4 @@
-use Rattle.std.proofs.Common.{◌≡◌, [], ◌∷◌, ◌++◌, sym, ◌∙◌, ap, bytes_eq, false, Bor, List, ℕ}
+use Rattle.std.proofs.Common.{◌≡◌, sym, ◌∙◌, ap, bytes_eq, false, Bor, List, ℕ}
 use Rattle.std.specs.List.{list_any}
 use Rattle.upf_reader.specs.Rows.{texts_view}
 use Rattle.upf_reader.specs.Tests.{are_options}

@@ -1,4 +1,4 @@
-use Rattle.std.proofs.Common.{◌≡◌, ◌↔◌, List, ℕ, [], ◌∷◌, IsTrue, sym, ◌∙◌, ap, ap₂, subst}
+use Rattle.std.proofs.Common.{◌≡◌, ◌↔◌, [], ◌∷◌, IsTrue, sym, ◌∙◌, ap, ap₂, subst}
 use Rattle.upf_reader.proofs.ListLemmas.{one_item, two_items, three_items, one_so, two_so, three_so, AnyVoltage}
 use Rattle.upf_reader.proofs.lists.are_voltage.Goals as goal
 

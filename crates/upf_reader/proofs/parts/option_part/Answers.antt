@@ -1,4 +1,4 @@
-use Rattle.std.proofs.Common.{◌∷◌, true, ap, refl, ◌∙◌}
+use Rattle.std.proofs.Common.{true, ap, refl, ◌∙◌}
 use Rattle.std.proofs.lemmas.Result.{IfOk-weaker}
 use Rattle.upf_commands.specs.CommandWords.{given}
 use Rattle.upf_commands.specs.Values.{truth_text}

@@ -1,4 +1,4 @@
-use Rattle.std.proofs.Common.{◌≡◌, ◌-◌, ◌∷◌, ◌++◌, inr, List, ℕ, Option, Some, None, length, take, drop, ap, subst, sym, ◌∙◌, option_map, Bor}
+use Rattle.std.proofs.Common.{◌≡◌, ◌-◌, ◌∷◌, ◌++◌, inr, List, ℕ, Option, length, take, drop, ap, subst, sym, ◌∙◌, option_map, Bor}
 use Rattle.upf_commands.specs.CommandWords.{given}
 use Rattle.upf_reader.specs.Parts.{part_view, GoesOn}
 use Rattle.upf_reader.specs.Rows.{command_view, option_view}

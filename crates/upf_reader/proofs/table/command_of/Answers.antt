@@ -1,8 +1,5 @@
-use Rattle.std.proofs.Common.{rules, arith, ◌≡◌, map, option_map, find, ℕ, ◌+◌, ◌-◌, ◌<◌, ◌≤◌, length, Bool, true, false, List, [], ◌∷◌, ◌++◌, slice_index_or, Bor, ap, sym, ◌∙◌, drop}
-use Rattle.std.specs.Str.{bytes_eq}
-use Rattle.upf_commands.specs.CommandTable.{commands}
-use Rattle.upf_commands.specs.CommandWords.{row_of, option_of}
-use Rattle.upf_reader.specs.Rows.{command_view, option_view, rows_of}
+use Rattle.std.proofs.Common.{arith, option_map, ap, sym, ◌∙◌}
+use Rattle.upf_reader.specs.Rows.{command_view}
 use Rattle.upf_reader.proofs.RowLemmas.{all_rows, named_row, found_next, passed_next}
 use Rattle.upf_reader.proofs.table.command_of.Goals as goal
 

@@ -1,4 +1,4 @@
-use Rattle.std.proofs.Common.{◌≡◌, find, drop}
+use Rattle.std.proofs.Common.{◌≡◌, drop}
 use Rattle.upf_commands.specs.CommandWords.{row_of}
 use Rattle.upf_reader.proofs.RowLemmas.{named_row}
 use Rattle.upf_reader.specs.Rows.{rows_of}

@@ -1,4 +1,4 @@
-use Rattle.std.proofs.Common.{List, ℕ, subst, sym, ◌∙◌}
+use Rattle.std.proofs.Common.{subst, sym}
 use Rattle.upf_commands.specs.Forms.{AreListOf, list}
 use Rattle.upf_reader.specs.Faults.{IsFormed}
 use Rattle.upf_reader.specs.Readings.{HasParting}

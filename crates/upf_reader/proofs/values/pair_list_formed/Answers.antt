@@ -1,7 +1,6 @@
-use Rattle.std.proofs.Common.{List, ℕ, Option, Some, None, MatchOption, IfOk, subst, sym, ap, ◌∙◌}
+use Rattle.std.proofs.Common.{List, ℕ, Option, MatchOption, IfOk, subst}
 use Rattle.std.proofs.lemmas.Result.{IfOk-weaker}
 use Rattle.upf_commands.specs.Forms.{IsMisformed, pairs}
-use Rattle.tcl_words.specs.ListWords.{PartsInto}
 use Rattle.upf_reader.specs.Faults.{IsFormed, HasMisformedPair, ArePairsFormed}
 use Rattle.upf_reader.specs.Readings.{HasParting}
 use Rattle.upf_reader.specs.declared.values.OpenLists.{OpenLists}
@@ -13,7 +12,7 @@ returns-in-Words c =
     let parts = subst (HasParting c.args.text.now) c.in-Words.is c.in_ok-items.ensures in
     IfOk-weaker c.pairs_formed.result (λ (r : Option OpenLists). MatchOption r (HasMisformedPair c.in-Words.items) (ArePairsFormed c.in-Words.items))
     (λ (r : Option OpenLists). MatchOption r (IsMisformed pairs c.args.text.now) (IsFormed pairs c.args.text.now))
-    (pairs_told c.args.text.now c.in-Words.items parts) 
+    (pairs_told c.args.text.now c.in-Words.items parts)
     (subst (λ (ws : List (List ℕ)). IfOk c.pairs_formed.result (λ (r : Option OpenLists). MatchOption r (HasMisformedPair ws) (ArePairsFormed ws))) c.as_slice.ensures.items c.pairs_formed.ensures)
 
 pub returns-in-Unclosed : goal.returns-in-Unclosed

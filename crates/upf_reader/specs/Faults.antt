@@ -1,4 +1,4 @@
--- What keeps a value from having its form, and a line from being a command.
+-- What keeps a value from having its form, and what gives a word for a key that was given before.
 use Rattle.std.specs.Prelude.{◌≡◌, ℕ, false, ◌||◌, ◌↔◌, IsTrue, List}
 use Rattle.list_defs.specs.Members.{IsIn}
 use Rattle.pw_defs.specs.declared.faults.At.{At}

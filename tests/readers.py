@@ -40,7 +40,7 @@ CUT_BYTES = 500
 # The example files that are cut, and those that aren't readable: their first token that can't stand, and its fault.
 ROOT = tables.HERE.parent
 EXAMPLES = {"libraries": ["examples/*/*.lib", "tests/designs/*.lib"], "netlists": ["examples/*/*.v"]}
-UNREADABLE = {"examples/synthesized/soc.v": (b"#", "N1 4 #")}
+UNREADABLE = {"examples/synthesized/soc.v": (b"#", "N1 4 #"), "examples/synthesized/unmapped.v": (b"  reg ", "N3 59 reg")}
 # How many bytes of fronts are asked for at once.
 ASKED_BYTES = 1 << 24
 # What stands in netlists: what is skipped (to the line's end, or up to its own end), escaped names, words, and single bytes.

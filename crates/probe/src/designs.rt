@@ -111,8 +111,16 @@ fn answer_of(alloc: Global, texts: Texts, top: &[u8]) -> Result<String, AllocErr
             let bits = design.len_bits();
             format!(in alloc; "ok {insts} {bits}")
         }
-        Err(TextFault::Library { text, fault }) => crate::libraries::fault_text(alloc, &fault, Some(text)),
-        Err(TextFault::Netlist { text, fault }) => crate::netlists::fault_text(alloc, &fault, Some(text)),
+        Err(TextFault::Library { text, fault }) => crate::libraries::fault_text(
+            alloc,
+            &fault,
+            Some(text),
+        ),
+        Err(TextFault::Netlist { text, fault }) => crate::netlists::fault_text(
+            alloc,
+            &fault,
+            Some(text),
+        ),
         Err(TextFault::Design { text, fault }) => fault_text(alloc, &fault, text),
     }
 }

@@ -1,4 +1,4 @@
-use Rattle.std.proofs.Common.{ap, map, refl, subst, sym}
+use Rattle.std.proofs.Common.{List, map, subst, sym}
 use Rattle.pw_defs.specs.declared.model.Model.{Model}
 use Rattle.list_defs.specs.Members.{IsIn}
 use Rattle.design_defs.specs.Inputs.{AllDiffer}

@@ -14,10 +14,17 @@ a design's fault `probe` gives the number of the netlist that has it, 0 at line 
 there, or doesn't take such texts: each such case is printed and counted as not tried. The exit status is 1 only where an answer is
 another one.
 
-Each short library and netlist that is readable is also cut behind each of its bytes. All but the last token of such a front go on to
-a readable text, so its answer is `ok`, or the fault of a text that is no library or netlist, on the last line of the front.
+Each short library and netlist of the tables that is readable is also cut behind each of its bytes, and so is each library and netlist of
+the examples. All but the last token of such a front go on to a readable text, so a front that isn't readable has the fault of a text that
+is no library or netlist, on its last line, at its end or at its last token. Which fronts of an example are readable is known too:
+
+- Of a library those that have the brace which closes it, the last one of the text. All others have L1.
+- Of a netlist those that end outside modules in blanks, in a comment to the line's end or in a line that begins with a back quote, or
+  right behind another comment, an attribute or an `endmodule`. Each has as many modules as `endmodule`s. All others have N1, N2 or N3.
+- Of an example that isn't readable those in front of its first fault are as such ones, and all others have that fault.
 """
 import argparse
+import re
 import subprocess
 import sys
 
@@ -30,6 +37,15 @@ SECONDS = 300
 # The faults that a front of a readable text may have, and how many bytes the texts have at most that are cut.
 CUT_CODES = {"libraries": ["L1"], "netlists": ["N1", "N2", "N3"], "designs": []}
 CUT_BYTES = 500
+# The example files that are cut, and those that aren't readable: their first token that can't stand, and its fault.
+ROOT = tables.HERE.parent
+EXAMPLES = {"libraries": ["examples/*/*.lib", "tests/designs/*.lib"], "netlists": ["examples/*/*.v"]}
+UNREADABLE = {"examples/synthesized/soc.v": (b"#", "N1 4 #"), "examples/synthesized/unmapped.v": (b"  reg ", "N3 59 reg")}
+# How many bytes of fronts are asked for at once.
+ASKED_BYTES = 1 << 24
+# What stands in netlists: what is skipped (to the line's end, or up to its own end), escaped names, words, and single bytes.
+PIECE = re.compile(rb"(?P<line>//[^\n]*|^[ \t]*`[^\n]*)|(?P<skipped>/\*.*?\*/|\(\*(?!\)).*?\*\))|(?P<blank>\s+)"
+                   rb"|(?P<name>\\[!-~]+|[A-Za-z_][\w$]*)|(?P<other>.)", re.DOTALL | re.MULTILINE)
 
 
 def word(text):
@@ -87,21 +103,96 @@ def fronts(folder, cases):
             for _, text in case.parts if len(text) <= CUT_BYTES for size in range(len(text))]
 
 
-def is_right_for_front(folder, front, got):
+def is_cut_fault(folder, front, got):
+    """Whether an answer is the fault of a front that isn't readable: on its last line, at its end or at its last token."""
     words = got.split(" ")
-    return words[0] == "ok" or (words[0] in CUT_CODES[folder] and words[1:2] == [str(tables.last_line(front))])
+    return (len(words) == 3 and words[0] in CUT_CODES[folder] and words[1] == str(tables.last_line(front))
+            and (words[2] == "-" or folder == "netlists" and front.endswith(tables.decoded(words[2]))))
 
 
 def cut_result(probe, folder, cases):
-    """How many fronts passed and failed."""
+    """How many fronts of the texts of cases passed and failed."""
     texts = sorted(set(fronts(folder, cases)))
     got = answers(probe, [CALLS[folder] + " " + word(text) for text in texts])
     if len(got) != len(texts):
         sys.exit("%s gave %d answers to %d fronts" % (probe, len(got), len(texts)))
-    wrong = [(text, is_) for text, is_ in zip(texts, got) if not is_right_for_front(folder, text, is_)]
+    wrong = [(text, is_) for text, is_ in zip(texts, got) if not is_.startswith("ok ") and not is_cut_fault(folder, text, is_)]
     for text, is_ in wrong:
         print("the front %r\n  answers `%s`" % (text, shortened(is_)))
     return len(texts) - len(wrong), len(wrong)
+
+
+def library_sizes(text):
+    """The sizes of the readable fronts of a library, each with the number of its cells."""
+    cells = len(re.findall(rb"\bcell *\(", text))
+    return {size: cells for size in range(text.rindex(b"}") + 1, len(text) + 1)}
+
+
+def netlist_sizes(text):
+    """The sizes of the readable fronts of a netlist, each with the number of its modules."""
+    sizes, modules, inside = {0: 0}, 0, False
+    for piece in PIECE.finditer(text):
+        kind, start, end = piece.lastgroup, piece.start(), piece.end()
+        if kind == "name" and piece.group() == b"endmodule":
+            modules, inside = modules + 1, False
+            sizes[end] = modules
+        elif kind in ("name", "other"):
+            inside = True
+        elif not inside:
+            first = {"line": start + 2 if piece.group().startswith(b"//") else start + 1, "skipped": end, "blank": start + 1}[kind]
+            sizes.update((size, modules) for size in range(first, end + 1))
+    return sizes
+
+
+SIZES = {"libraries": library_sizes, "netlists": netlist_sizes}
+
+
+def example_wants(folder, path, text):
+    """For each front of an example, from the empty one to the whole text, its answer: `ok N`, a fault, or `None` for a fault at its end."""
+    mark, fault = UNREADABLE.get(path, (None, None))
+    end = text.index(mark) + len(mark) if mark else len(text) + 1
+    sizes = SIZES[folder](text[:end - 1] if mark else text)
+    return [fault if size >= end else "ok %d" % sizes[size] if size in sizes else None for size in range(len(text) + 1)]
+
+
+def example_batches(text):
+    """The sizes of the fronts of a text, in runs that have about so many bytes as are asked for at once."""
+    run, asked = [], 0
+    for size in range(len(text) + 1):
+        run.append(size)
+        asked += size
+        if asked >= ASKED_BYTES:
+            yield run
+            run, asked = [], 0
+    yield run
+
+
+def example_result(probe, folder, path):
+    """How many fronts of an example passed and failed."""
+    text = (ROOT / path).read_bytes()
+    wants, failed = example_wants(folder, path, text), 0
+    for sizes in example_batches(text):
+        got = answers(probe, [CALLS[folder] + " " + word(text[:size]) for size in sizes])
+        if len(got) != len(sizes):
+            sys.exit("%s gave %d answers to %d fronts of %s" % (probe, len(got), len(sizes), path))
+        for size, is_ in zip(sizes, got):
+            want = wants[size]
+            if not (is_right(want, is_) if want else is_cut_fault(folder, text[:size], is_)):
+                print("%s up to byte %d\n  answers `%s`\n  wanted  `%s`" % (path, size, shortened(is_), want or "a fault at its end"))
+                failed += 1
+    return len(wants) - failed, failed
+
+
+def examples_result(probe, only):
+    """How many fronts of all examples passed and failed."""
+    passed = failed = 0
+    for folder, globs in EXAMPLES.items():
+        for path in sorted(str(path.relative_to(ROOT)) for glob in globs for path in ROOT.glob(glob)):
+            if only in path:
+                more_passed, more_failed = example_result(probe, folder, path)
+                print("%s: %d fronts passed" % (path, more_passed))
+                passed, failed = passed + more_passed, failed + more_failed
+    return passed, failed, 0
 
 
 def folder_result(probe, folder, only, cells):
@@ -129,10 +220,11 @@ def folder_result(probe, folder, only, cells):
 def main():
     words = argparse.ArgumentParser(description=__doc__, formatter_class=argparse.RawDescriptionHelpFormatter)
     words.add_argument("probe")
-    words.add_argument("--only", default="", help="only cases with this in their table or name")
+    words.add_argument("--only", default="", help="only cases with this in their table or name, and examples with this in their path")
     given = words.parse_args()
     cells = (tables.HERE / "designs" / "cells.lib").read_bytes()
     results = [folder_result(given.probe, folder, given.only, cells) for folder in tables.FOLDERS]
+    results.append(examples_result(given.probe, given.only))
     passed, failed, left = (sum(column) for column in zip(*results))
     print("%d cases passed, %d failed, %d not tried" % (passed, failed, left))
     sys.exit(1 if failed else 0)

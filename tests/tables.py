@@ -14,7 +14,7 @@ A table is a text file. Lines before its first case begin with `#`. A case is
 - In tests/libraries a line `-- and` begins a further library, to be joined to those before it.
 - In tests/designs the text is a netlist over `cells.lib`, and its top is `top`. A line `-- netlist` begins a (further) netlist,
   `-- library` a library in place of `cells.lib`, and `-- model` a model: `module NAME`, then `port in|out NAME [M L]`, then
-  `feed BIT BIT`. A line `-- top NAME` says another top.
+  `feed BIT BIT` for each output bit that an input bit feeds, in order of the output bits. A line `-- top NAME` says another top.
 
 Answers. Names in them have the bytes of 0x21 to 0x7D as they are, and other bytes as `~XX`.
 
@@ -186,6 +186,14 @@ def module_lines(case):
     return found
 
 
+MODEL = re.compile(rb"module \S+\n(port (in|out) \S+( \d+ \d+)?\n)*(feed \S+ \S+\n)*")
+
+
+def model_fault(case):
+    """What is wrong with the models of a case, by their form alone."""
+    return None if all(MODEL.fullmatch(text) for text in case.texts("model")) else "a model of another form"
+
+
 def design_fault(case, code, line, rest):
     if len(rest) != 2:
         return "a name and the number of a module are wanted"
@@ -206,6 +214,8 @@ FAULTS = {"libraries": library_fault, "netlists": netlist_fault, "designs": desi
 
 def case_fault(folder, case):
     """What is wrong with a case, by its form alone."""
+    if model_fault(case):
+        return model_fault(case)
     words = case.answer.split(" ")
     if words[0] == "ok" and len(words) > 1 and words[1].isdigit():
         return ok_fault(folder, words)

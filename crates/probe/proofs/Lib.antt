@@ -1,3 +1,4 @@
+pub mod BareModels
+pub mod BitLists
 pub mod EvenTables
 pub mod Fitting
-pub mod NoModels

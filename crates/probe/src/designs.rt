@@ -1,28 +1,43 @@
-//! Designs of libraries and netlists as text.
+//! Designs of libraries, netlists and models as text.
 
+use crate::model_forms::are_read;
+use crate::models::model_of;
 use crate::texts::{put_name, text_of};
 use crate::words::{answer_text, unknown};
-use crate::{libraries, netlists};
-use pw_defs::{AtModule, Bytes, DesignFault, List};
+use pw_defs::{AtModule, Bytes, DesignFault, List, Memory, Model};
 use std::alloc::{AllocError, Global};
 use text_designs::{TextFault, design_of_texts};
 
-/// The texts of a design, each kind in the order of its words.
+/// The texts of a design and its models, each kind in the order of its words.
 #[derive(Drop)]
 struct Texts {
     libraries: List<Bytes>,
     netlists: List<Bytes>,
+    models: List<Model>,
 }
 
 impl Texts {
-    /// Adds a text by the word for its kind: whether there is such a kind.
-    fn add(&mut self, kind: &str, text: Bytes) -> Result<bool, AllocError> {
+    /// Adds a text by the word for its kind: whether there is such a kind, and a model is one.
+    fn add(&mut self, alloc: Global, kind: &str, text: Bytes) -> Result<bool, AllocError> {
         match kind {
             "library" => self.libraries.push(text)?,
             "netlist" => self.netlists.push(text)?,
+            "model" => return self.add_model(alloc, text.as_slice()),
             _ => return Ok(false),
         }
         Ok(true)
+    }
+
+    /// Adds a model: whether the text writes one.
+    fn add_model(&mut self, alloc: Global, text: &[u8]) -> Result<bool, AllocError> {
+        match model_of(alloc, text) {
+            Ok(Some(model)) => {
+                self.models.push(model)?;
+                Ok(true)
+            }
+            Ok(None) => Ok(false),
+            Err(Memory) => Err(AllocError),
+        }
     }
 
     /// Adds a text as its words say it: whether these are right.
@@ -31,7 +46,7 @@ impl Texts {
             return Ok(false);
         };
         match Bytes::from_vec(bytes) {
-            Some(text) => self.add(kind, text),
+            Some(text) => self.add(alloc, kind, text),
             None => Ok(false),
         }
     }
@@ -42,6 +57,7 @@ fn texts_in(alloc: Global, words: &[&str]) -> Result<Option<Texts>, AllocError> 
     let mut texts = Texts {
         libraries: List::new(alloc),
         netlists: List::new(alloc),
+        models: List::new(alloc),
     };
     let mut kind = None;
     for word in words {
@@ -61,8 +77,8 @@ fn texts_in(alloc: Global, words: &[&str]) -> Result<Option<Texts>, AllocError> 
     Ok(Some(texts))
 }
 
-/// How many instances and bits the design of libraries and netlists below a top has, or its first fault. What isn't readable is
-/// unknown, and so is a design with models.
+/// How many instances and bits the design of libraries and netlists below a top has, where models stand for modules, or its first
+/// fault. Words that say no texts are unknown, and so are models that aren't well-formed and two of one module.
 pub fn design_text(alloc: Global, words: &[&str]) -> Result<String, AllocError> {
     let Some((top, rest)) = words.split_first() else {
         return unknown(alloc);
@@ -71,23 +87,40 @@ pub fn design_text(alloc: Global, words: &[&str]) -> Result<String, AllocError> 
         return unknown(alloc);
     };
     match texts_in(alloc, rest)? {
-        Some(texts) => answer_of(alloc, &texts, top.as_slice()),
+        Some(texts) => answer_of(alloc, texts, top.as_slice()),
         None => unknown(alloc),
     }
 }
 
 /// The answer to texts and a top.
-#[tactic(auto, using(crate::proofs::NoModels::no_models))]
-fn answer_of(alloc: Global, texts: &Texts, top: &[u8]) -> Result<String, AllocError> {
-    let models = List::new(alloc);
-    match design_of_texts(alloc, &texts.libraries, &texts.netlists, models, top) {
+fn answer_of(alloc: Global, texts: Texts, top: &[u8]) -> Result<String, AllocError> {
+    let Texts {
+        libraries,
+        netlists,
+        models,
+    } = texts;
+    let Ok(right) = are_read(alloc, &models) else {
+        return Err(AllocError);
+    };
+    if !right {
+        return unknown(alloc);
+    }
+    match design_of_texts(alloc, &libraries, &netlists, models, top) {
         Ok(design) => {
             let insts = design.len_insts();
             let bits = design.len_bits();
             format!(in alloc; "ok {insts} {bits}")
         }
-        Err(TextFault::Library { text, fault }) => libraries::fault_text(alloc, &fault, Some(text)),
-        Err(TextFault::Netlist { text, fault }) => netlists::fault_text(alloc, &fault, Some(text)),
+        Err(TextFault::Library { text, fault }) => crate::libraries::fault_text(
+            alloc,
+            &fault,
+            Some(text),
+        ),
+        Err(TextFault::Netlist { text, fault }) => crate::netlists::fault_text(
+            alloc,
+            &fault,
+            Some(text),
+        ),
         Err(TextFault::Design { text, fault }) => fault_text(alloc, &fault, text),
     }
 }

@@ -12,15 +12,19 @@
 //! - `read_library TEXT ..` answers the cells of libraries, each joined to those before it, and `read_netlist TEXT` the modules of a
 //!   netlist, or their first fault. A text is `x` and two hexadecimal digits for each byte; `tests/tables.py` says how cells,
 //!   modules and faults are written.
-//! - `elaborate TOP [library TEXT].. [netlist TEXT]..` answers how many instances and bits the design of libraries
-//!   and netlists has below the top of this name; or the first fault of the texts, with the number of the library or netlist;
-//!   or the first fault of the design, with the numbers of its module and of the netlist of that.
+//! - `elaborate TOP [library TEXT].. [netlist TEXT].. [model TEXT]..` answers how many instances and bits the design of libraries
+//!   and netlists has below the top of this name, where models stand for modules; or the first fault of the texts, with the number
+//!   of the library or netlist; or the first fault of the design, with the numbers of its module and of the netlist of that. The
+//!   module `models` says how a model is written.
 //! - `name NAME` answers the number of the name, which it has from its first such line on.
 #![tactic(auto)]
 
 mod conditions;
 mod designs;
 mod libraries;
+mod model_bits;
+mod model_forms;
+mod models;
 mod names;
 mod netlists;
 mod states;

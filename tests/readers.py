@@ -16,7 +16,8 @@ another one.
 
 Each short library and netlist of the tables that is readable is also cut behind each of its bytes, and so is each library and netlist of
 the examples. All but the last token of such a front go on to a readable text, so a front that isn't readable has the fault of a text that
-is no library or netlist, on its last line, at its end or at its last token. Which fronts of an example are readable is known too:
+is no library or netlist, on its last line, at its end or at its last token; where that is a constant without digits, at its width. Which
+fronts of an example are readable is known too:
 
 - Of a library those that have the brace which closes it, the last one of the text. All others have L1.
 - Of a netlist those that end outside modules in blanks, in a comment to the line's end or in a line that begins with a back quote, or
@@ -27,6 +28,7 @@ import argparse
 import re
 import subprocess
 import sys
+import tempfile
 
 import tables
 
@@ -41,6 +43,8 @@ CUT_BYTES = 500
 ROOT = tables.HERE.parent
 EXAMPLES = {"libraries": ["examples/*/*.lib", "tests/designs/*.lib"], "netlists": ["examples/*/*.v"]}
 UNREADABLE = {"examples/synthesized/soc.v": (b"#", "N1 4 #"), "examples/synthesized/unmapped.v": (b"  reg ", "N3 59 reg")}
+# What may stand behind the width of a constant that is cut: the width is a number then, which can't stand there.
+CUT_CONSTANT = rb"('[bodhBODH]?)?"
 # How many bytes of fronts are asked for at once.
 ASKED_BYTES = 1 << 24
 # What stands in netlists: what is skipped (to the line's end, or up to its own end), escaped names, words, and single bytes.
@@ -67,10 +71,13 @@ def call_of(folder, case, cells):
 
 
 def answers(probe, calls):
-    """What the program answers, a line each."""
+    """What the program answers, a line each. Its input is a file, since of a pipe it reads each byte by itself."""
     if not calls:
         return []
-    done = subprocess.run([probe], input="\n".join(calls) + "\n", capture_output=True, text=True, timeout=SECONDS)
+    with tempfile.TemporaryFile("w+") as asked:
+        asked.write("\n".join(calls) + "\n")
+        asked.seek(0)
+        done = subprocess.run([probe], stdin=asked, capture_output=True, text=True, timeout=SECONDS)
     if done.returncode != 0:
         sys.exit("%s ended with %d: %s" % (probe, done.returncode, done.stderr))
     return done.stdout.split("\n")[:-1]
@@ -106,8 +113,11 @@ def fronts(folder, cases):
 def is_cut_fault(folder, front, got):
     """Whether an answer is the fault of a front that isn't readable: on its last line, at its end or at its last token."""
     words = got.split(" ")
-    return (len(words) == 3 and words[0] in CUT_CODES[folder] and words[1] == str(tables.last_line(front))
-            and (words[2] == "-" or folder == "netlists" and front.endswith(tables.decoded(words[2]))))
+    if len(words) != 3 or words[0] not in CUT_CODES[folder] or words[1] != str(tables.last_line(front)):
+        return False
+    if words[2] == "-" or folder == "libraries":
+        return words[2] == "-"
+    return re.search(re.escape(tables.decoded(words[2])) + CUT_CONSTANT + rb"\Z", front) is not None
 
 
 def cut_result(probe, folder, cases):

@@ -1,5 +1,5 @@
 -- What a table finds: the names that it is of, each at its place.
-use Rattle.std.proofs.Common.{◌≡◌, ◌≢◌, ◌⊎◌, ℕ, zero, suc, ◌+◌, ◌%◌, ◌<◌, true, false, not, ◌&&◌, is_some, List, [], ◌∷◌, ◌++◌, length, get_or, Option, Some, None, IfSome, IfNone, slice_get, inl, inr, refl, sym, ap, ◌∙◌, subst, arith}
+use Rattle.std.proofs.Common.{◌≡◌, ◌≢◌, ◌⊎◌, ℕ, zero, suc, ◌+◌, ◌<◌, true, false, not, ◌&&◌, is_some, List, [], ◌∷◌, ◌++◌, length, get_or, Option, Some, None, IfSome, IfNone, slice_get, inl, inr, refl, sym, ap, ◌∙◌, subst, arith}
 use Rattle.std.specs.List.{list_any}
 use Rattle.std.proofs.lemmas.Bool.{cases_eq}
 use Rattle.std.proofs.lemmas.List.{length_push}
@@ -8,7 +8,7 @@ use Rattle.list_defs.specs.Members.{all_differ, place_of, same_name}
 use Rattle.list_defs.proofs.NameLemmas.{all_differ-push, is_some-place_of, place_of-own, slice_get-place_of}
 use Rattle.name_index.specs.declared.table.Link.{Link}
 use Rattle.name_index.specs.declared.table.Table.{Table}
-use Rattle.name_index.specs.Tables.{Finds, IsSameBut, IsSmooth, IsTable, KeepsNumbers, Leads, crowded_number, hash_of, head_of, nowhere, tag_of}
+use Rattle.name_index.specs.Tables.{Finds, IsSameBut, IsSmooth, IsTable, KeepsNumbers, Leads, crowded_number, hash_of, head_of, nowhere, place_in, tag_of}
 
 -- where neither the links nor the tree lead to a name, it isn't there
 pub look_up-none : (names : List (List ℕ)) (name : List ℕ) (t : Table) (result : Option ℕ) → IsTable names t → all_differ same_name names ≡ true
@@ -39,7 +39,7 @@ smooth_same name old new same smooth = record {
 
 pub found_same : (name : List ℕ) (old new : Table) → IsSameBut name old new → KeepsNumbers old new name
 found_same name old new same = λ other n apart found.
-    let head : head_of old other ≡ head_of new other = ap (λ hs. get_or hs (hash_of other % length hs) nowhere) (sym same.heads) in
+    let head : head_of old other ≡ head_of new other = ap (λ hs. get_or hs (place_in (hash_of other) (length hs)) nowhere) (sym same.heads) in
     let P : Link → Type 0 = λ h. Leads (tag_of other) new.links.items h n in
     let Q : List Link → Type 0 = λ ls. Leads (tag_of other) ls (head_of old other) n in
     elim found [

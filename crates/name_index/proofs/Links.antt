@@ -1,10 +1,11 @@
 -- Where links lead, and one link more.
-use Rattle.std.proofs.Common.{◌≡◌, ◌≢◌, ◌⊎◌, ℕ, zero, suc, ◌+◌, ◌-◌, ◌%◌, ◌<◌, ◌≤◌, List, [], ◌∷◌, ◌++◌, length, get_or, set, Some, slice_get, inl, inr, refl, sym, ap, ◌∙◌, subst, arith}
+use Rattle.std.proofs.Common.{◌≡◌, ◌≢◌, ◌⊎◌, ℕ, zero, suc, ◌+◌, ◌-◌, ◌<◌, ◌≤◌, List, [], ◌∷◌, ◌++◌, length, get_or, set, Some, slice_get, inl, inr, refl, sym, ap, ◌∙◌, subst, arith}
 use Rattle.std.proofs.lemmas.Bool.{cases_eq, cases_lt}
+use Rattle.std.proofs.lemmas.Nat.{and_le_r}
 use Rattle.std.proofs.lemmas.List.{get_or-set_same, get_or-set_other, get_or_append_left, get_or_at, get_or_past, length_push, length-set}
 use Rattle.name_index.specs.declared.table.Link.{Link}
 use Rattle.name_index.specs.declared.table.Table.{Table}
-use Rattle.name_index.specs.Tables.{Finds, IsLinked, IsSmooth, Leads, hash_of, nowhere, number_in, tag_of}
+use Rattle.name_index.specs.Tables.{Finds, IsLinked, IsSmooth, Leads, hash_of, nowhere, number_in, place_in, tag_of}
 
 -- the link to no name leads nowhere
 pub leads_nowhere : (tag : ℕ) (links : List Link) (link : Link) (n : ℕ) → link.behind ≡ 0 → Leads tag links link n → ⊥
@@ -73,6 +74,11 @@ links_fall links x fall few m = by (cases_eq m (length links))
       | inr past ↦ omega (arith, ap (λ (l : Link). l.behind) (get_or_past (links ++ x ∷ []) m nowhere (omega (arith, other, past, length_push links x))))
     ]
 
+-- the place of a hash is one of the places, where there are some
+pub place_within : (hash places : ℕ) → 0 < places → place_in hash places < places
+unfolding place_in
+place_within hash places some = omega (arith, some, and_le_r hash (places - 1))
+
 -- a table in which a name was linked
 module _ (old new : Table) (name : List ℕ) (places : 0 < length old.heads.items) (linked : IsLinked old new name) where
   abbrev heads : List Link
@@ -82,19 +88,19 @@ module _ (old new : Table) (name : List ℕ) (places : 0 < length old.heads.item
   links = old.links.items
 
   abbrev place : ℕ
-  place = hash_of name % length heads
+  place = place_in (hash_of name) (length heads)
 
   abbrev next : Link
   next = record { behind = length links + 1; tag = tag_of name }
 
   within : place < length heads
-  within = omega arith
+  within = place_within (hash_of name) (length heads) places
 
   -- it leads from the name to its number
   pub new_found : Finds new name (length links)
   new_found =
-      let P : List Link → Type 0 = λ hs. Leads (tag_of name) new.links.items (get_or hs (hash_of name % length hs) nowhere) (length links) in
-      let Q : ℕ → Type 0 = λ n. Leads (tag_of name) new.links.items (get_or (set heads place next) (hash_of name % n) nowhere) (length links) in
+      let P : List Link → Type 0 = λ hs. Leads (tag_of name) new.links.items (get_or hs (place_in (hash_of name) (length hs)) nowhere) (length links) in
+      let Q : ℕ → Type 0 = λ n. Leads (tag_of name) new.links.items (get_or (set heads place next) (place_in (hash_of name) n) nowhere) (length links) in
       let is = get_or-set_same heads place next nowhere within in
       let there : Leads (tag_of name) new.links.items (get_or (set heads place next) place nowhere) (length links) =
       Leads.here _ (length links) (ap (λ (l : Link). l.behind) is) (ap (λ (l : Link). l.tag) is) in
@@ -103,10 +109,10 @@ module _ (old new : Table) (name : List ℕ) (places : 0 < length old.heads.item
   -- and from other names to theirs
   pub old_found : (other : List ℕ) (n : ℕ) → Finds old other n → Finds new other n
   old_found other n (inl leads) =
-      let P : List Link → Type 0 = λ hs. Leads (tag_of other) new.links.items (get_or hs (hash_of other % length hs) nowhere) n in
-      let Q : ℕ → Type 0 = λ l. Leads (tag_of other) new.links.items (get_or (set heads place next) (hash_of other % l) nowhere) n in
-      let R : List Link → Type 0 = λ ls. Leads (tag_of other) ls (get_or (set heads place next) (hash_of other % length heads) nowhere) n in
-      let past = leads_past (tag_of other) heads links place (hash_of other % length heads) next n within refl leads in
+      let P : List Link → Type 0 = λ hs. Leads (tag_of other) new.links.items (get_or hs (place_in (hash_of other) (length hs)) nowhere) n in
+      let Q : ℕ → Type 0 = λ l. Leads (tag_of other) new.links.items (get_or (set heads place next) (place_in (hash_of other) l) nowhere) n in
+      let R : List Link → Type 0 = λ ls. Leads (tag_of other) ls (get_or (set heads place next) (place_in (hash_of other) (length heads)) nowhere) n in
+      let past = leads_past (tag_of other) heads links place (place_in (hash_of other) (length heads)) next n within refl leads in
       inl (subst P (sym linked.heads) (subst Q (sym (length-set heads place next)) (subst R (sym linked.links) past)))
   old_found other n (inr there) = inr (ap (λ tree. number_in tree other) linked.tree ∙ there)
 

@@ -1,9 +1,10 @@
 -- A table of one place in which two names are linked, whatever its tree, and how its links lead.
-use Rattle.std.proofs.Common.{◌≡◌, ℕ, zero, suc, ◌%◌, ◌+◌, ◌≤◌, List, [], ◌∷◌, length, get_or, Some, slice_get, inl, refl, sym, ap, subst, arith}
+use Rattle.std.proofs.Common.{◌≡◌, ℕ, zero, suc, ◌+◌, ◌≤◌, List, [], ◌∷◌, length, get_or, Some, slice_get, inl, refl, sym, ap, subst, arith}
 use Rattle.std.specs.Prelude.{codes}
+use Rattle.std.specs.Int.Bits.{and_zero_r}
 use Rattle.name_index.specs.declared.table.Link.{Link}
 use Rattle.name_index.specs.declared.table.Table.{Table}
-use Rattle.name_index.specs.Tables.{Finds, IsTable, Leads, hash_of, head_of, nowhere, tag_of}
+use Rattle.name_index.specs.Tables.{Finds, IsTable, Leads, hash_of, head_of, nowhere, place_in, tag_of}
 
 -- links to the first and the second name, with these tags
 abbrev to_first : ℕ → Link
@@ -49,8 +50,9 @@ leads_to_no_other_tag (Leads.goes link m next n is at rest) = later m next is at
     later (suc (suc m)) next is at rest = omega (arith, is)
 
 head_there : (t : Table) (name : List ℕ) (link : Link) → t.heads.items ≡ link ∷ [] → head_of t name ≡ link
+unfolding place_in
 head_there t name link heads =
-    let at : hash_of name % 1 ≡ 0 = omega arith in
+    let at : place_in (hash_of name) 1 ≡ 0 = and_zero_r (hash_of name) in
     rw heads (ap (λ place. get_or (link ∷ []) place nowhere) at)
 
 pub two_names_in_a_table : (t : Table) → t.heads.items ≡ to_second b ∷ [] → t.links.items ≡ two a → IsTable (codes "a" ∷ codes "b" ∷ []) t

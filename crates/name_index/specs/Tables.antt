@@ -1,6 +1,7 @@
 -- Tables that tell the number of a name from its bytes.
-use Rattle.std.specs.Prelude.{◌≡◌, ◌≢◌, ℕ, ◌+◌, ◌≤◌, ◌%◌, ◌⊎◌, List, [], ◌∷◌, ◌++◌, Option, Some, true, length, get_or, slice_get, slice_set}
+use Rattle.std.specs.Prelude.{◌≡◌, ◌≢◌, ℕ, ◌+◌, ◌-◌, ◌≤◌, ◌%◌, ◌⊎◌, List, [], ◌∷◌, ◌++◌, Option, Some, true, length, get_or, slice_get, slice_set}
 use Rattle.std.specs.BTreeMap.{BTreeMap, get_by}
+use Rattle.std.specs.Int.Bits.{bit_and}
 use Rattle.std.specs.Global.{Vec}
 use Rattle.std.specs.Ordering.{nat_cmp}
 use Rattle.std.specs.Cmp.Lexicographic.{slice_cmp}
@@ -17,13 +18,17 @@ hash_of name = folding.finish (folding.write folding.initial name)
 abbrev pub tag_of : List ℕ → ℕ
 tag_of name = hash_of name % 4294967296
 
+-- the place of a hash among so many, which are a power of two
+unfoldable pub place_in : ℕ → ℕ → ℕ
+place_in hash places = bit_and hash (places - 1)
+
 -- the link to no name
 abbrev pub nowhere : Link
 nowhere = record { behind = 0; tag = 0 }
 
 -- the link to the last name that was linked at the place of a name
 abbrev pub head_of : Table → List ℕ → Link
-head_of t name = get_or t.heads.items (hash_of name % length t.heads.items) nowhere
+head_of t name = get_or t.heads.items (place_in (hash_of name) (length t.heads.items)) nowhere
 
 -- the links lead from a link to a number with a tag
 pub data Leads (tag : ℕ) (links : List Link) : Link → ℕ → Type 0 where
@@ -64,7 +69,7 @@ pub record IsSameBut (name : List ℕ) (old new : Table) : Type 0 where
 
 -- the next number stands in front of those that were linked at the place of a name
 pub record IsLinked (old new : Table) (name : List ℕ) : Type 0 where
-  pub heads : new.heads.items ≡ slice_set old.heads.items (hash_of name % length old.heads.items) (record { behind = length old.links.items + 1; tag = tag_of name })
+  pub heads : new.heads.items ≡ slice_set old.heads.items (place_in (hash_of name) (length old.heads.items)) (record { behind = length old.links.items + 1; tag = tag_of name })
   pub links : new.links.items ≡ old.links.items ++ head_of old name ∷ []
   pub tree : new.crowded ≡ old.crowded
 

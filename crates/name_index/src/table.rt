@@ -2,7 +2,7 @@
 ghost use Rattle.std.specs.Prelude.{◌≡◌, ◌≢◌, ℕ, ◌+◌, ◌%◌, ◌<◌, ◌↔◌, [], ◌∷◌, ◌++◌, List, Some, None, true, length, get_or, slice_get, IfOk, OnOk, OnErr, IfSome, IfNone, IsTrue, vec_len};
 ghost use Rattle.std.specs.Vec.{vec_capacity};
 ghost use Rattle.list_defs.specs.Members.{all_differ, place_of, same_name};
-ghost use Rattle.name_index.specs.Tables.{Finds, IsLinked, IsSameBut, IsSmooth, IsTable, KeepsNumbers, Leads, crowded_number, hash_of, head_of, nowhere, number_in, tag_of};
+ghost use Rattle.name_index.specs.Tables.{Finds, IsLinked, IsSameBut, IsSmooth, IsTable, KeepsNumbers, Leads, crowded_number, hash_of, head_of, nowhere, number_in, place_in, tag_of};
 
 use name_rows::Names;
 use std::alloc::{AllocError, Global};
@@ -85,7 +85,7 @@ pub fn put_in(
     Ok(())
 }
 
-/// Gives the table twice as many places where there are as many names as places.
+/// Gives the table four times as many places where there are as many names as places: 16, 64 and so on.
 fn widen(alloc: Global, table: &mut Table, names: &Names) -> Result<(), AllocError>
     requires table { IsTable names.now table.old }
     requires differ { all_differ same_name names.now ≡ true }
@@ -96,7 +96,7 @@ fn widen(alloc: Global, table: &mut Table, names: &Names) -> Result<(), AllocErr
     if (names.len() as usize) < places {
         return Ok(());
     }
-    *table = table_of(alloc, names, places.saturating_mul(2).max(16))?;
+    *table = table_of(alloc, names, places.saturating_mul(4).max(16))?;
     Ok(())
 }
 
@@ -205,7 +205,7 @@ fn add_link(table: &mut Table, name: &[u8], hash: u64)
 {
     let behind = table.links.len() as u32 + 1;
     let head = head(table, hash);
-    let place = hash as usize % table.heads.len();
+    let place = place(hash, table.heads.len());
     table.heads[place] = Link {
         behind,
         tag: tag(hash),
@@ -264,13 +264,23 @@ fn is_name(names: &Names, place: u32, name: &[u8]) -> bool
 
 /// The head of the place of a hash.
 fn head(table: &Table, hash: u64) -> Link
-    ensures { result ≡ get_or table.now.heads.items (hash % length table.now.heads.items) nowhere }
+    ensures { result ≡ get_or table.now.heads.items (place_in hash (length table.now.heads.items)) nowhere }
 {
     let places = table.heads.len();
     if places == 0 {
         return NOWHERE;
     }
-    table.heads[hash as usize % places]
+    table.heads[place(hash, places)]
+}
+
+/// The place of a hash among so many, which are a power of two, so that no division is needed.
+#[tactic(auto, using(crate::proofs::Links::place_within), unfolding(crate::specs::Tables::place_in))]
+fn place(hash: u64, places: usize) -> usize
+    requires { 0 < places }
+    ensures place { result ≡ place_in hash places }
+    ensures within { result < places }
+{
+    hash as usize & (places - 1)
 }
 
 /// The part of a hash that stands beside a link.

@@ -1,7 +1,7 @@
 use Rattle.std.proofs.Common.{◌≡◌, ◌-◌, ◌%◌, ◌<◌, List, true, Some, slice_get, length, get_or, ap, sym, ◌∙◌, subst, arith}
 use Rattle.std.proofs.lemmas.Option.{slice_get-get_or}
 use Rattle.name_index.specs.declared.table.Link.{Link}
-use Rattle.name_index.specs.Tables.{Leads, head_of, nowhere, tag_of}
+use Rattle.name_index.specs.Tables.{Leads, head_of, nowhere, place_in, tag_of}
 use Rattle.name_index.proofs.Links.{leads_nowhere, leads_on}
 use Rattle.name_index.proofs.table.linked_number.Goals as goal
 use Rattle.name_index.proofs.table.linked_number.Goals.{else-link-tag-via-then-link-tag+else-is_name, else-link-tag-via-else-link-tag}
@@ -10,10 +10,10 @@ pub loop-link-init : goal.loop-link-init
 loop-link-init c =
     let own = c.head-link.ensures in
     record {
-      within = omega (arith, ap (λ (l : Link). l.behind) own, c.requires.table.smooth.heads (c.args.hash % length c.args.table.now.heads.items), ap length c.as_slice-links.ensures.value);
+      within = omega (arith, ap (λ (l : Link). l.behind) own, c.requires.table.smooth.heads (place_in c.args.hash (length c.args.table.now.heads.items)), ap length c.as_slice-links.ensures.value);
       rest = λ n leads named.
           let P : Link → Type 0 = λ h. Leads (tag_of c.args.name.now) c.as_slice-links.result.now h n in
-          let same = ap (λ h. get_or c.args.table.now.heads.items (h % length c.args.table.now.heads.items) nowhere) c.requires.hash in
+          let same = ap (λ h. get_or c.args.table.now.heads.items (place_in h (length c.args.table.now.heads.items)) nowhere) c.requires.hash in
           subst P (sym (own ∙ same)) leads;
     }
 

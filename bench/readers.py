@@ -110,9 +110,10 @@ def sta_modules(files, netlist):
 
 
 def sta_netlist(files, library, netlist):
-    done = sta_run(files, ["read_liberty " + library, "read_verilog " + netlist, "link_design top",
-                           "puts [llength [get_cells -hierarchical *]]"])
-    return done, int(done.printed.split()[-1]) + 1
+    """A run that reads and links, and how many instances another one counts, the top among them: counting takes long."""
+    linked = ["read_liberty " + library, "read_verilog " + netlist, "link_design top"]
+    counted = sta_run(Files(files.folder, files.seed), linked + ["puts [llength [get_cells -hierarchical *]]"])
+    return sta_run(files, linked), int(counted.printed.split()[-1]) + 1
 
 
 def own_run(bench, files, words):

@@ -1,0 +1,5 @@
+//! The lists of values of the roots that each unit sees.
+#![tactic(auto)]
+
+mod flow;
+mod views;

@@ -1,3 +1,4 @@
 pub mod SetLemmas
 pub mod ListedLemmas
 pub mod FlowLemmas
+pub mod RootLemmas

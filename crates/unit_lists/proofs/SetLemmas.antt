@@ -1,6 +1,7 @@
 -- Sets in order: what an insert leaves.
-use Rattle.std.proofs.Common.{◌≡◌, ◌≢◌, ℕ, Bool, true, false, not, ◌&&◌, ◌||◌, eqb, eq-eqb, ◌-◌, List, [], ◌∷◌, ◌++◌, take, ◌⊎◌, inl, inr, refl, sym, ap, ◌∙◌, subst}
+use Rattle.std.proofs.Common.{◌≡◌, ◌≢◌, ℕ, Bool, true, false, not, ◌&&◌, ◌||◌, eqb, eq-eqb, ◌-◌, ◌<◌, List, [], ◌∷◌, ◌++◌, take, length, get_or, slice_get, Some, ◌⊎◌, inl, inr, refl, sym, ap, ◌∙◌, subst}
 use Rattle.std.proofs.lemmas.Bool.{eqb-true}
+use Rattle.std.proofs.lemmas.Option.{slice_get-get_or}
 use Rattle.std.specs.BTreeSet.{insert_key}
 use Rattle.std.specs.BTreeMap.{is_at}
 use Rattle.std.specs.List.{list_any}
@@ -99,7 +100,7 @@ or_parts : (a b : Bool) → (a || b) ≡ true → (a ≡ true) ⊎ (b ≡ true)
 or_parts true b e = inl refl
 or_parts false b e = inr e
 
-equal_from : (o : Ordering) → is_eq o ≡ true → o ≡ Equal
+pub equal_from : (o : Ordering) → is_eq o ≡ true → o ≡ Equal
 equal_from Less e = cc
 equal_from Equal e = refl
 equal_from Greater e = cc
@@ -135,3 +136,7 @@ not_added added false e f = cc
 -- a list of which nothing could be taken is empty
 pub none_taken : {X : Type 0} (n : ℕ) (old new : List X) → n ≡ 0 → new ≡ take (n - 1) old → old ≡ new ++ [] → old ≡ []
 none_taken n old new e f g = g ∙ ap (λ (xs : List _). xs ++ []) (f ∙ ap (λ (m : ℕ). take (m - 1) old) e)
+
+-- what stands at a place of a list
+pub item_there : {X : Type 0} (xs items : List X) (n : ℕ) (d : X) → items ≡ xs → n < length xs → slice_get xs n ≡ Some (get_or items n d)
+item_there xs items n d same below = slice_get-get_or xs n d below ∙ ap (λ (ys : List _). Some (get_or ys n d)) (sym same)

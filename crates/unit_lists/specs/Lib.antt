@@ -1,3 +1,5 @@
 pub mod Flow
 pub mod Kept
+pub mod Ranges
+pub mod Roots
 pub mod Views

@@ -2,4 +2,5 @@
 #![tactic(auto)]
 
 mod flow;
+mod roots;
 mod views;

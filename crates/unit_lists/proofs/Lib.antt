@@ -2,3 +2,5 @@ pub mod SetLemmas
 pub mod ListedLemmas
 pub mod FlowLemmas
 pub mod RootLemmas
+pub mod PlanLemmas
+pub mod StepLemmas

@@ -1,5 +1,6 @@
 pub mod Flow
 pub mod Kept
+pub mod Plans
 pub mod Ranges
 pub mod Roots
 pub mod Views

@@ -2,5 +2,6 @@
 #![tactic(auto)]
 
 mod flow;
+mod plans;
 mod roots;
 mod views;

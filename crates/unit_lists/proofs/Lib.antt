@@ -4,3 +4,4 @@ pub mod FlowLemmas
 pub mod RootLemmas
 pub mod PlanLemmas
 pub mod StepLemmas
+pub mod GatherLemmas

@@ -140,3 +140,6 @@ none_taken n old new e f g = g ∙ ap (λ (xs : List _). xs ++ []) (f ∙ ap (λ
 -- what stands at a place of a list
 pub item_there : {X : Type 0} (xs items : List X) (n : ℕ) (d : X) → items ≡ xs → n < length xs → slice_get xs n ≡ Some (get_or items n d)
 item_there xs items n d same below = slice_get-get_or xs n d below ∙ ap (λ (ys : List _). Some (get_or ys n d)) (sym same)
+
+pub item_is : {X : Type 0} (xs items : List X) (n : ℕ) (x : X) → items ≡ xs → x ≡ get_or items n x → n < length xs → slice_get xs n ≡ Some x
+item_is xs items n x same is below = item_there xs items n x same below ∙ ap Some (sym is)

@@ -75,10 +75,14 @@ pub record Plans (supplies : List Supply) (old new : Plan) (Holds Planned : List
   pub grows : Grows old new
   pub plan : (units : List PowerUnit) → Holds units → IsPlan supplies units old → IsPlan supplies units new × Planned units
 
+-- whatever the units are
+abbrev pub Always : List PowerUnit → Type 0
+Always units = Unit {0}
+
 -- a root as a unit sees it was met
 pub record Meets (supplies : List Supply) (old new : Plan) (a root : View) : Type 0 where
   pub unit : root.unit ≡ a.unit
-  pub planned : Plans supplies old new (λ units. Unit {0}) (λ units. IsRootIn supplies units a.unit a.supply root.supply)
+  pub planned : Plans supplies old new Always (λ units. IsRootIn supplies units a.unit a.supply root.supply)
   pub met : IsIn root new.met.keys
 
 -- the root of a supply is among those that the unit sees

@@ -1,5 +1,6 @@
 pub mod Flow
 pub mod Kept
+pub mod Lists
 pub mod Plans
 pub mod Ranges
 pub mod Roots

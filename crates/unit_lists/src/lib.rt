@@ -2,6 +2,9 @@
 #![tactic(auto)]
 
 mod flow;
+mod lists;
 mod plans;
 mod roots;
 mod views;
+
+pub use lists::unit_lists;

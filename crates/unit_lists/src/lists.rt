@@ -1,0 +1,84 @@
+//! The lists of values, from a plan and the values that come to its roots.
+ghost use Rattle.std.specs.Prelude.{◌≡◌, ◌↔◌, IfOk, OnOk, map};
+ghost use Rattle.list_defs.specs.Members.{IsIn};
+ghost use Rattle.list_defs.specs.Orders.{AreAllRising};
+ghost use Rattle.pw_defs.specs.Values.{value_cmp};
+ghost use Rattle.supply_defs.specs.Network.{HasFeedersInRange, HasNoFeederRing};
+ghost use Rattle.supply_defs.specs.UnitLists.{AreUnitLists};
+ghost use Rattle.unit_lists.specs.Lists.{AreListsOf, BeginsBy};
+ghost use Rattle.unit_lists.specs.Ranges.{AreInputsInRange, ArePortsInRange};
+
+use crate::flow::{listed, reached};
+use crate::plans::{Plan, is_switch_output, plan_of};
+use crate::views::View;
+use pw_defs::{List, Memory, RootList, Supply, Unit, Value};
+use std::alloc::Global;
+use std::collections::BTreeSet;
+
+/// Adds what each root may have: it may be off, and where nothing is given on it, it may be on at 0 V.
+fn add_own_values(
+    supplies: &List<Supply>,
+    met: &BTreeSet<View>,
+    given: &BTreeSet<View>,
+    begins: &mut Vec<(View, Value)>,
+) -> Result<(), Memory>
+    ensures { OnOk result (BeginsBy supplies.now met.now.keys given.now.keys begins.old.items begins.new.items) }
+{
+    for view in met {
+        begins.push((*view, Value::Off))?;
+        if given.contains(view) || is_switch_output(supplies, view.supply) {
+            continue;
+        }
+        begins.push((*view, Value::On(0)))?;
+    }
+    Ok(())
+}
+
+/// The lists of some roots, in their order.
+fn lists_of(
+    alloc: Global,
+    seen: &BTreeSet<View>,
+    values: &BTreeSet<(View, Value)>,
+) -> Result<List<RootList>, Memory>
+    ensures { IfOk result (AreListsOf seen.now.keys values.now.keys) }
+{
+    let mut lists = List::new(alloc);
+    for view in seen {
+        let found = listed(alloc, values, *view, Value::Off)?;
+        let Some(values) = List::from_vec(found) else {
+            return Err(Memory);
+        };
+        lists.push(RootList {
+            unit: view.unit,
+            root: view.supply,
+            values,
+        })?;
+    }
+    Ok(lists)
+}
+
+/// The lists of values of a network: by unit, and within a unit by root, one for each root that the unit sees.
+pub fn unit_lists(
+    alloc: Global,
+    supplies: &List<Supply>,
+    units: &List<Unit>,
+) -> Result<List<RootList>, Memory>
+    requires in_range { HasFeedersInRange supplies.now }
+    requires ringless { HasNoFeederRing supplies.now }
+    requires inputs { AreInputsInRange supplies.now }
+    requires ports { ArePortsInRange supplies.now units.now }
+    ensures { IfOk result (AreUnitLists supplies.now units.now) }
+{
+    let plan = plan_of(alloc, supplies, units)?;
+    let Plan {
+        roots: _,
+        seen,
+        met,
+        given,
+        mut begins,
+        links,
+    } = plan;
+    add_own_values(supplies, &met, &given, &mut begins)?;
+    let values = reached(alloc, begins, &links)?;
+    lists_of(alloc, &seen, &values)
+}

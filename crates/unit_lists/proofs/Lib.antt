@@ -5,3 +5,5 @@ pub mod RootLemmas
 pub mod PlanLemmas
 pub mod StepLemmas
 pub mod GatherLemmas
+pub mod ListLemmas
+pub mod ValueLaws

@@ -1,19 +1,28 @@
 //! The lists of values, from a plan and the values that come to its roots.
-ghost use Rattle.std.specs.Prelude.{◌≡◌, ◌↔◌, IfOk, OnOk, map};
+ghost use Rattle.std.specs.Prelude.{◌≡◌, ◌↔◌, IfOk, IsTrue, OnOk, Some};
 ghost use Rattle.list_defs.specs.Members.{IsIn};
 ghost use Rattle.list_defs.specs.Orders.{AreAllRising};
 ghost use Rattle.pw_defs.specs.Values.{value_cmp};
 ghost use Rattle.supply_defs.specs.Network.{HasFeedersInRange, HasNoFeederRing};
+ghost use Rattle.supply_defs.specs.UnitViews.{kind_at};
+ghost use Rattle.pw_defs.specs.declared.supplies.SupplyKind.TheVariants.{SwitchOut};
 ghost use Rattle.supply_defs.specs.UnitLists.{AreUnitLists};
 ghost use Rattle.unit_lists.specs.Lists.{AreListsOf, BeginsBy};
 ghost use Rattle.unit_lists.specs.Ranges.{AreInputsInRange, ArePortsInRange};
 
 use crate::flow::{listed, reached};
-use crate::plans::{Plan, is_switch_output, plan_of};
+use crate::plans::{is_switch_output, plan_of};
 use crate::views::View;
 use pw_defs::{List, Memory, RootList, Supply, Unit, Value};
 use std::alloc::Global;
 use std::collections::BTreeSet;
+
+/// Whether a root may be on at 0 V: nothing is given on it, and it is no switch output.
+fn may_be_zero(supplies: &List<Supply>, given: &BTreeSet<View>, view: View) -> bool
+    ensures { IsTrue result ↔ (¬ IsIn view given.now.keys × ¬ (kind_at supplies.now view.supply ≡ Some SwitchOut)) }
+{
+    !given.contains(&view) && !is_switch_output(supplies, view.supply)
+}
 
 /// Adds what each root may have: it may be off, and where nothing is given on it, it may be on at 0 V.
 fn add_own_values(
@@ -26,10 +35,9 @@ fn add_own_values(
 {
     for view in met {
         begins.push((*view, Value::Off))?;
-        if given.contains(view) || is_switch_output(supplies, view.supply) {
-            continue;
+        if may_be_zero(supplies, given, *view) {
+            begins.push((*view, Value::On(0)))?;
         }
-        begins.push((*view, Value::On(0)))?;
     }
     Ok(())
 }
@@ -69,16 +77,9 @@ pub fn unit_lists(
     requires ports { ArePortsInRange supplies.now units.now }
     ensures { IfOk result (AreUnitLists supplies.now units.now) }
 {
-    let plan = plan_of(alloc, supplies, units)?;
-    let Plan {
-        roots: _,
-        seen,
-        met,
-        given,
-        mut begins,
-        links,
-    } = plan;
-    add_own_values(supplies, &met, &given, &mut begins)?;
-    let values = reached(alloc, begins, &links)?;
-    lists_of(alloc, &seen, &values)
+    let mut plan = plan_of(alloc, supplies, units)?;
+    add_own_values(supplies, &plan.met, &plan.given, &mut plan.begins)?;
+    let values = reached(alloc, plan.begins, &plan.links)?;
+    let lists = lists_of(alloc, &plan.seen, &values)?;
+    Ok(lists)
 }

@@ -1,5 +1,5 @@
 -- What is taken up, one after the other, is in the end all that comes to views.
-use Rattle.std.proofs.Common.{◌≡◌, List, [], ◌∷◌, ◌++◌, map, ◌⊎◌, inl, inr, refl, sym, ap, ◌∙◌, subst, ◌↔◌}
+use Rattle.std.proofs.Common.{◌≡◌, List, [], ◌∷◌, ◌++◌, map, ◌⊎◌, inl, inr, refl, sym, ap, subst, ◌↔◌}
 use Rattle.pw_defs.specs.declared.values.Value.{Value}
 use Rattle.list_defs.specs.Members.{IsIn}
 use Rattle.list_defs.proofs.Members.{IsIn-append_left, IsIn-append_right, IsIn-append_cases, IsIn-map, IsIn-map_from}

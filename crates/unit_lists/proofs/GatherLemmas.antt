@@ -1,5 +1,5 @@
 -- What is gathered of one thing after the other is gathered of all of them.
-use Rattle.std.proofs.Common.{◌≡◌, ℕ, ◌+◌, ◌<◌, ◌≤◌, Bool, true, false, eqb, List, [], ◌∷◌, ◌++◌, length, take, get_or, slice_get, Option, Some, None, option_map, unwrap_or, ◌⊎◌, inl, inr, refl, sym, ap, ◌∙◌, subst, arith}
+use Rattle.std.proofs.Common.{◌≡◌, ℕ, ◌+◌, ◌<◌, ◌≤◌, Bool, true, false, eqb, List, [], ◌∷◌, length, take, get_or, slice_get, Option, Some, None, option_map, unwrap_or, ◌⊎◌, inl, inr, refl, sym, ap, ◌∙◌, subst, arith}
 use Rattle.std.proofs.lemmas.Bool.{eqb-true, eqb-false}
 use Rattle.std.proofs.lemmas.List.{take_more}
 use Rattle.std.proofs.lemmas.Option.{slice_get_within, slice_get-get_or}
@@ -106,8 +106,7 @@ own_and_said supplies p q r n s saids is same h k = record {
   grows = grows_on p q r h.grows k.grows;
   plan = λ units any was.
       let one = h.plan units (IsSeen.own s is refl) was in
-      let two = k.plan units (said_there supplies n s saids is same) one.0 in
-      (
+      let two = k.plan units (said_there supplies n s saids is same) one.0 in (
         two.0,
         (
           seen_stays supplies units q r s.unit n k.grows one.1,
@@ -130,12 +129,14 @@ plain_whole supplies p q r n s saids is same other h k =
     record {
       grows = both.grows;
       plan = λ units any was.
-          let now = both.plan units any was in
-          (now.0, λ x there. (let P : Supply → Type 0 = λ t. IsSupplyPlanned supplies units r n t in subst P (one_there supplies n s x is there) (record {
-            own = now.1.0;
-            said = now.1.1;
-            inputs = λ switch. absurd (other (kind_there supplies n s is ∙ ap Some switch));
-          })));
+          let now = both.plan units any was in (
+            now.0,
+            λ x there. (let P : Supply → Type 0 = λ t. IsSupplyPlanned supplies units r n t in subst P (one_there supplies n s x is there) (record {
+              own = now.1.0;
+              said = now.1.1;
+              inputs = λ switch. absurd (other (kind_there supplies n s is ∙ ap Some switch));
+            })),
+          );
     }
 
 -- a switch output is whole where links from its inputs are added
@@ -153,12 +154,14 @@ switch_whole supplies p q r t n s saids inputs is same same_inputs switch h k l 
       grows = grows_on p r t both.grows l.grows;
       plan = λ units any was.
           let now = both.plan units any was in
-          let then = l.plan units (λ input there. (output, named input there)) now.0 in
-          (then.0, λ x there. (let P : Supply → Type 0 = λ y. IsSupplyPlanned supplies units t n y in subst P (one_there supplies n s x is there) (record {
-            own = seen_stays supplies units r t s.unit n l.grows now.1.0;
-            said = λ said there. said_stays supplies units r t n said l.grows (now.1.1 said there);
-            inputs = λ kind input there. then.1 input (let I : List ℕ → Type 0 = λ xs. IsIn input xs in subst I (sym same_inputs) there);
-          })));
+          let then = l.plan units (λ input there. (output, named input there)) now.0 in (
+            then.0,
+            λ x there. (let P : Supply → Type 0 = λ y. IsSupplyPlanned supplies units t n y in subst P (one_there supplies n s x is there) (record {
+              own = seen_stays supplies units r t s.unit n l.grows now.1.0;
+              said = λ said there. said_stays supplies units r t n said l.grows (now.1.1 said there);
+              inputs = λ kind input there. then.1 input (let I : List ℕ → Type 0 = λ xs. IsIn input xs in subst I (sym same_inputs) there);
+            })),
+          );
     }
   where
     output : IsSwitchOutput supplies s.unit n
@@ -176,11 +179,13 @@ pub unit_whole : (supplies : List Supply) (p q : Plan) (n outer : ℕ) (u : Powe
 unit_whole supplies p q n outer u ports is same h = record {
   grows = h.grows;
   plan = λ units there was.
-      let now = h.plan units (λ port listed. record { macro = u; there = there; outer = is; listed = (let I : List ℕ → Type 0 = λ xs. IsIn port xs in subst I same listed) }) was in
-      (now.0, λ other also port listed.
-          let one : outer ≡ other = cc in
-          let P : ℕ → Type 0 = λ m. IsPortPlanned supplies units q m n port in
-          subst P one (now.1 port (let I : List ℕ → Type 0 = λ xs. IsIn port xs in subst I (sym same) listed)));
+      let now = h.plan units (λ port listed. record { macro = u; there = there; outer = is; listed = (let I : List ℕ → Type 0 = λ xs. IsIn port xs in subst I same listed) }) was in (
+        now.0,
+        λ other also port listed.
+            let one : outer ≡ other = cc in
+            let P : ℕ → Type 0 = λ m. IsPortPlanned supplies units q m n port in
+            subst P one (now.1 port (let I : List ℕ → Type 0 = λ xs. IsIn port xs in subst I (sym same) listed)),
+      );
 }
 
 -- the ports of a unit that stands in none are no one's

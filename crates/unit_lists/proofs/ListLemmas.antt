@@ -1,5 +1,5 @@
 -- Values that roots have of their own, and lists in the order of roots.
-use Rattle.std.proofs.Common.{◌≡◌, ℕ, Bool, true, false, List, [], ◌∷◌, ◌++◌, map, Some, ◌⊎◌, inl, inr, refl, sym, ap, ◌∙◌, subst, append_assoc, append-nil, not}
+use Rattle.std.proofs.Common.{◌≡◌, Bool, true, false, List, [], ◌∷◌, ◌++◌, map, Some, ◌⊎◌, inl, inr, refl, sym, ap, ◌∙◌, subst, append_assoc, append-nil, not}
 use Rattle.std.specs.List.{AllByRecursion}
 use Rattle.std.specs.List.Sorted.{IsStrictlySortedBy}
 use Rattle.std.specs.declared.cmp.Ordering.TheVariants.{Less}
@@ -27,29 +27,6 @@ pub record BeginsSoFar (supplies : List Supply) (met given : List View) (old new
   pub own : (a : View) (v : Value) → IsOwnValue supplies met given a v → IsIn (a, v) new ⊎ IsIn a left
   pub only : (a : View) (v : Value) → IsIn (a, v) new → IsIn (a, v) old ⊎ IsOwnValue supplies met given a v
   pub there : (a : View) → IsIn a left → IsIn a met
-
-own_met : (supplies : List Supply) (met given : List View) (a : View) (v : Value) → IsOwnValue supplies met given a v → IsIn a met
-own_met supplies met given _ _ (IsOwnValue.off a is) = is
-own_met supplies met given _ _ (IsOwnValue.zero_volts a is none switch) = is
-
--- none at first
-pub none_begun : (supplies : List Supply) (met given : List View) (begins : List (View × Value)) (left : List View) → left ≡ met
-    → BeginsSoFar supplies met given begins begins left
-none_begun supplies met given begins left all = record {
-  kept = λ a v there. there;
-  own = λ a v is. inr (let I : List View → Type 0 = λ xs. IsIn a xs in subst I (sym all) (own_met supplies met given a v is));
-  only = λ a v there. inl there;
-  there = λ a is. let I : List View → Type 0 = λ xs. IsIn a xs in subst I all is;
-}
-
--- all at last
-pub all_begun : (supplies : List Supply) (met given : List View) (old new : List (View × Value)) (left : List View) → left ≡ []
-    → BeginsSoFar supplies met given old new left → BeginsBy supplies met given old new
-all_begun supplies met given old new left none h = record {
-  kept = h.kept;
-  own = λ a v is. elim (h.own a v is) [ inl there ↦ there | inr later ↦ absurd (let I : List View → Type 0 = λ xs. IsIn a xs in subst I none later) ];
-  only = h.only;
-}
 
 -- what a root may have of its own
 own_cases : (supplies : List Supply) (met given : List View) (a b : View) (v : Value) → IsOwnValue supplies met given b v → b ≡ a

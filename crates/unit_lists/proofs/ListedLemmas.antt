@@ -1,22 +1,21 @@
 -- What belongs to a view stands in one row in a list in order.
-use Rattle.std.proofs.Common.{◌≡◌, ◌≢◌, ℕ, Bool, true, false, ◌&&◌, List, [], ◌∷◌, ◌++◌, filter, ◌⊎◌, inl, inr, refl, sym, ap, ◌∙◌, subst}
+use Rattle.std.proofs.Common.{◌≡◌, ◌≢◌, Bool, true, false, ◌&&◌, List, [], ◌∷◌, ◌++◌, filter, ◌⊎◌, inl, inr, refl, sym, ap, ◌∙◌, subst}
 use Rattle.std.specs.List.{AllByRecursion}
 use Rattle.std.specs.List.Sorted.{IsStrictlySortedBy}
 use Rattle.std.specs.BTreeMap.Range.{range_contains}
 use Rattle.std.specs.Cmp.{IsTotalOrder}
-use Rattle.std.specs.Ordering.{is_gt, is_le, nat_cmp, ordering_then, ordering_reverse}
+use Rattle.std.specs.Ordering.{is_gt, is_le, ordering_then, ordering_reverse}
 use Rattle.std.specs.declared.cmp.Ordering.{Ordering}
 use Rattle.std.specs.declared.cmp.Ordering.TheVariants.{Less, Equal, Greater}
-use Rattle.std.specs.declared.ops.Bound.{Bound}
 use Rattle.std.specs.declared.ops.Bound.TheVariants.{Included, Unbounded}
 use Rattle.std.proofs.lemmas.Cmp.{nat_cmp_total, on_total, then_total, tied_itself}
 use Rattle.list_defs.specs.Members.{IsIn}
 use Rattle.list_defs.specs.Orders.{IsRising, AreAllRising}
 use Rattle.list_defs.proofs.Members.{IsIn-filter, IsIn-filter_from, IsIn-append_left, IsIn-append_right, IsIn-append_cases}
 use Rattle.list_defs.proofs.Rising.{each_in, IsRising-filter, IsRising-append}
-use Rattle.unit_lists.specs.Views.{view_cmp, at_view_cmp}
+use Rattle.unit_lists.specs.Views.{view_cmp}
 use Rattle.unit_lists.specs.declared.views.View.{View}
-use Rattle.unit_lists.proofs.SetLemmas.{exact_views}
+use Rattle.unit_lists.proofs.SetLemmas.{at_view_cmp, exact_views}
 
 -- the order of views is total
 pub view_cmp_total : IsTotalOrder view_cmp

@@ -1,5 +1,5 @@
 -- What grows in a plan, and that it stays so in the network.
-use Rattle.std.proofs.Common.{◌≡◌, ℕ, List, [], ◌∷◌, ◌++◌, BTreeMap, BTreeSet, Vec, Global, ◌⊎◌, inl, inr, refl, sym, ap, ◌∙◌, subst}
+use Rattle.std.proofs.Common.{◌≡◌, ℕ, List, [], ◌∷◌, ◌++◌, BTreeMap, BTreeSet, Vec, Global, inl, inr, refl, sym, subst}
 use Rattle.pw_defs.specs.declared.intent.Unit.{Unit as PowerUnit}
 use Rattle.pw_defs.specs.declared.supplies.Said.{Said}
 use Rattle.pw_defs.specs.declared.supplies.Supply.{Supply}
@@ -9,7 +9,7 @@ use Rattle.list_defs.proofs.Members.{IsIn-append_left, IsIn-append_right, IsIn-a
 use Rattle.supply_defs.specs.UnitLists.{IsSeenRoot}
 use Rattle.supply_defs.specs.UnitViews.{IsRootIn}
 use Rattle.unit_lists.specs.Kept.{Gains}
-use Rattle.unit_lists.specs.Plans.{Grows, IsGiven, IsInputPlanned, IsLink, IsMentionOn, IsPlan, IsPortPlanned, IsSaidPlanned, IsSeenPlanned, Plans}
+use Rattle.unit_lists.specs.Plans.{Grows, IsGiven, IsInputPlanned, IsLink, IsMentionOn, IsPlan, IsPortPlanned, IsSaidPlanned, IsSeenPlanned}
 use Rattle.unit_lists.specs.Roots.{AreRoots}
 use Rattle.unit_lists.specs.declared.plans.Plan.{Plan}
 use Rattle.unit_lists.specs.declared.views.View.{View}

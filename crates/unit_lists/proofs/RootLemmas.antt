@@ -1,10 +1,9 @@
 -- Roots are kept as they are found, and walks up the feeders end.
-use Rattle.std.proofs.Common.{◌≡◌, ◌≢◌, ℕ, ◌+◌, ◌<◌, ◌≤◌, Bool, true, false, cond, eqb, List, [], ◌∷◌, ◌++◌, filter, take, get_or, length, slice_get, Option, Some, None, option_map, unwrap_or, is_some, IsSome, Bor, ◌⊎◌, inl, inr, refl, sym, ap, ◌∙◌, subst, arith}
+use Rattle.std.proofs.Common.{◌≡◌, ℕ, ◌+◌, ◌<◌, ◌≤◌, Bool, true, false, cond, eqb, List, [], ◌∷◌, ◌++◌, take, get_or, length, slice_get, Option, Some, None, option_map, unwrap_or, is_some, IsSome, Bor, ◌⊎◌, inl, inr, refl, sym, ap, ◌∙◌, subst, arith}
 use Rattle.std.specs.BTreeMap.{BTreeMap, IsEmpty, get, is_at}
 use Rattle.std.specs.Map.{lookup}
 use Rattle.std.specs.Option.{option_copied}
 use Rattle.std.specs.Ordering.{is_eq}
-use Rattle.std.specs.declared.cmp.Ordering.TheVariants.{Equal}
 use Rattle.std.proofs.lemmas.Bool.{eqb-true, eqb-false}
 use Rattle.std.proofs.lemmas.Cmp.{tied_itself}
 use Rattle.std.proofs.lemmas.List.Elements.{filter_more}
@@ -13,7 +12,7 @@ use Rattle.pw_defs.specs.declared.intent.Unit.{Unit as PowerUnit}
 use Rattle.pw_defs.specs.declared.supplies.Supply.{Supply}
 use Rattle.list_defs.specs.Members.{IsIn}
 use Rattle.list_defs.proofs.Members.{IsIn-append_left, IsIn-append_right, IsIn-append_cases}
-use Rattle.supply_defs.specs.Network.{IsFedBy, IsUnfed, IsRoot}
+use Rattle.supply_defs.specs.Network.{IsFedBy, IsRoot}
 use Rattle.supply_defs.specs.UnitViews.{IsRootIn, in_ports, is_in_port, kind_at, view_ends}
 use Rattle.supply_defs.proofs.Roots.{root_of_feeder}
 use Rattle.unit_lists.specs.Roots.{AddsEnds, AreRoots, in_ports_of}
@@ -72,7 +71,7 @@ still_roots supplies units old new here root h is puts = record {
         let A : View → Type 0 = λ x. IsRootIn supplies units x.unit x.supply r in
         let R : ℕ → Type 0 = λ x. IsRootIn supplies units here.unit here.supply x in
         subst A here_it.0 (subst R here_it.1 is)
-      )
+        )
     | inr was ↦ h.each a r was
   ];
   ends = λ a there. put_kept old new here root puts a (h.ends a there);
@@ -102,7 +101,7 @@ adds_port supplies first old new unit port ports more h e puts = record {
       | inl same ↦ (
           let P : ℕ → Type 0 = λ x. IsSome (get view_cmp new (record { unit = unit; supply = x })) in
           subst P (sym same) (put_there old new end port puts)
-        )
+          )
       | inr none ↦ absurd none
     ]
   ];
@@ -131,9 +130,12 @@ pub more_ends : (supplies : List Supply) (units : List PowerUnit) (old new : BTr
 more_ends supplies units old new n unit ports is same_ports adds h = record {
   each = λ a root there. elim (adds.each a root there) [
     | inl was ↦ h.each a root was
-    | inr added ↦ (added.1, (let P : ℕ → Type 0 = λ x. IsIn root (view_ends supplies units x) in
-        let Q : List ℕ → Type 0 = λ xs. IsIn root xs in
-        subst P (sym added.0) (subst Q (sym ends_here) added.2)))
+    | inr added ↦ (
+      added.1,
+      (let P : ℕ → Type 0 = λ x. IsIn root (view_ends supplies units x) in
+          let Q : List ℕ → Type 0 = λ xs. IsIn root xs in
+          subst P (sym added.0) (subst Q (sym ends_here) added.2)),
+    )
   ];
   ends = λ a below there. by (eqb a.unit n) a refl below there;
 }

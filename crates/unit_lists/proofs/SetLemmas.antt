@@ -15,8 +15,12 @@ use Rattle.pw_defs.specs.declared.values.Value.{Value}
 use Rattle.pw_defs.specs.declared.values.Value.TheVariants.{Off, On}
 use Rattle.list_defs.specs.Members.{IsIn}
 use Rattle.unit_lists.specs.Kept.{Gains}
-use Rattle.unit_lists.specs.Views.{view_cmp, at_view_cmp}
+use Rattle.unit_lists.specs.Views.{view_cmp}
 use Rattle.unit_lists.specs.declared.views.View.{View}
+
+-- by a view, then by what belongs to it
+abbrev pub at_view_cmp : {V : Type 0} → (V → V → Ordering) → View × V → View × V → Ordering
+at_view_cmp cmp a b = ordering_then (view_cmp a.0 b.0) (cmp a.1 b.1)
 
 -- one of two orders, and then the other
 then_equal : (o p : Ordering) → ordering_then o p ≡ Equal → (o ≡ Equal) × (p ≡ Equal)

@@ -29,10 +29,9 @@ meets supplies p roots views a root found kept gains = record {
   planned = record {
     grows = grows_met p roots views (view_of a.unit root) gains;
     plan = λ units any h.
-        let is : IsRootIn supplies units a.unit a.supply root = found units h.roots in
-        (
+        let is : IsRootIn supplies units a.unit a.supply root = found units h.roots in (
           plan_gains_met supplies units p roots views (view_of a.unit root) gains (kept units h.roots is)
-          (root_of_root supplies (view_ends supplies units a.unit) a.supply root is) h,
+              (root_of_root supplies (view_ends supplies units a.unit) a.supply root is) h,
           is,
         );
   };
@@ -52,7 +51,7 @@ adds_seen supplies p q views a root m gains = record {
         → IsPlan supplies units (record q { seen = views }) × IsSeenPlanned supplies units (record q { seen = views }) a.unit a.supply
     by units sees h = (
       plan_gains_seen supplies units q views root gains
-      (let S : ℕ → Type 0 = λ u. IsSeenRoot supplies units u root.supply in subst S (sym m.unit) (record { supply = a.supply; seen = sees; is_root = h.1 })) h.0,
+          (let S : ℕ → Type 0 = λ u. IsSeenRoot supplies units u root.supply in subst S (sym m.unit) (record { supply = a.supply; seen = sees; is_root = h.1 })) h.0,
       record {
         root = root.supply;
         is_root = h.1;
@@ -84,8 +83,7 @@ adds_said supplies p q views begins supply said root m gains e = record {
         → IsPlan supplies units end × IsSaidPlanned supplies units end supply said
     by units mentioned h =
         let U : ℕ → Type 0 = λ u. IsMentionOn supplies units (view_of u root.supply) said.value in
-        let on : IsMentionOn supplies units root said.value = subst U (sym m.unit) (record { supply = supply; is_root = h.1; mentioned = mentioned }) in
-        (
+        let on : IsMentionOn supplies units root said.value = subst U (sym m.unit) (record { supply = supply; is_root = h.1; mentioned = mentioned }) in (
           plan_gains_begins supplies units mid begins root said.value more on (plan_gains_given supplies units q views root gains (inl (said.value, on)) h.0),
           record {
             root = root.supply;
@@ -157,11 +155,10 @@ adds_port supplies p q r seen given links unit inner port root inside m n gains_
         let W : ℕ → Type 0 = λ u. IsPortWithin units u inner port in
         let V : ℕ → Type 0 = λ u. IsPortWithin units root.unit u port in
         let R : ℕ → Type 0 = λ u. IsRootIn supplies units u port root.supply in
-        let I : ℕ → Type 0 = λ u. IsRootIn supplies units u port inside.supply in
-        (
+        let I : ℕ → Type 0 = λ u. IsRootIn supplies units u port inside.supply in (
           plan_gains_links supplies units gives links inside root gains_link
-          (inl (record { port = port; within = subst V (sym n.unit) (subst W (sym m.unit) within); inside = subst I (sym n.unit) inner_root; outside = subst R (sym m.unit) outside }))
-          (plan_gains_given supplies units sees given root gains_two (inr on) (plan_gains_seen supplies units r seen root gains_one sees_it h)),
+              (inl (record { port = port; within = subst V (sym n.unit) (subst W (sym m.unit) within); inside = subst I (sym n.unit) inner_root; outside = subst R (sym m.unit) outside }))
+              (plan_gains_given supplies units sees given root gains_two (inr on) (plan_gains_seen supplies units r seen root gains_one sees_it h)),
           record {
             root = root.supply;
             inner_root = inside.supply;

@@ -1,17 +1,15 @@
 -- What comes to the roots of a whole plan along its links are the values that they may have.
-use Rattle.std.proofs.Common.{◌≡◌, ℕ, List, [], ◌∷◌, map, Option, Some, None, option_map, unwrap_or, slice_get, ◌⊎◌, inl, inr, refl, sym, ap, ◌∙◌, subst, ◌↔◌}
+use Rattle.std.proofs.Common.{◌≡◌, ℕ, List, [], ◌∷◌, map, Option, Some, None, option_map, unwrap_or, slice_get, inl, inr, refl, sym, ap, subst, ◌↔◌}
 use Rattle.std.specs.List.{AllByRecursion}
 use Rattle.std.specs.declared.cmp.Ordering.TheVariants.{Less}
-use Rattle.pw_defs.specs.Values.{value_cmp}
 use Rattle.pw_defs.specs.declared.intent.RootList.{RootList}
 use Rattle.pw_defs.specs.declared.intent.Unit.{Unit as PowerUnit}
-use Rattle.pw_defs.specs.declared.supplies.Said.{Said}
 use Rattle.pw_defs.specs.declared.supplies.Supply.{Supply}
 use Rattle.pw_defs.specs.declared.supplies.SupplyKind.TheVariants.{SwitchOut}
 use Rattle.pw_defs.specs.declared.values.Value.{Value}
 use Rattle.pw_defs.specs.declared.values.Value.TheVariants.{Off, On}
 use Rattle.list_defs.specs.Members.{IsIn}
-use Rattle.list_defs.specs.Orders.{AreAllRising, IsRising}
+use Rattle.list_defs.specs.Orders.{IsRising}
 use Rattle.list_defs.proofs.Members.{IsIn-map, IsIn-map_from}
 use Rattle.supply_defs.specs.UnitLists.{AreUnitLists, IsSeen, IsSeenRoot, unit_and_root, unit_and_root_cmp}
 use Rattle.supply_defs.specs.UnitViews.{IsRootIn, kind_at, view_ends}
@@ -19,7 +17,7 @@ use Rattle.supply_defs.specs.Values.{HasValue, IsMentioned, IsNamedInput, IsPort
 use Rattle.supply_defs.proofs.Roots.{one_root}
 use Rattle.unit_lists.specs.Flow.{Reaches}
 use Rattle.unit_lists.specs.Lists.{AreListsOf, BeginsBy, IsOwnValue, root_of_list}
-use Rattle.unit_lists.specs.Plans.{IsGiven, IsLink, IsMentionOn, IsPlan, IsPortOn, IsPortPlanned, IsSaidPlanned, IsWholePlan, view_of}
+use Rattle.unit_lists.specs.Plans.{IsGiven, IsLink, IsPortPlanned, IsSaidPlanned, IsWholePlan, view_of}
 use Rattle.unit_lists.specs.Views.{view_cmp}
 use Rattle.unit_lists.specs.declared.plans.Plan.{Plan}
 use Rattle.unit_lists.specs.declared.views.View.{View}

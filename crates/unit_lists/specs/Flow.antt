@@ -1,5 +1,5 @@
 -- Values that go from view to view.
-use Rattle.std.specs.Prelude.{ℕ, ◌⊎◌, List}
+use Rattle.std.specs.Prelude.{◌⊎◌, List}
 use Rattle.pw_defs.specs.declared.values.Value.{Value}
 use Rattle.list_defs.specs.Members.{IsIn}
 use Rattle.unit_lists.specs.declared.views.View.{View}

@@ -1,6 +1,5 @@
 -- Values that roots have of their own, and lists of what comes to roots.
-use Rattle.std.specs.Prelude.{◌≡◌, ℕ, ◌⊎◌, List, Some, map}
-use Rattle.std.specs.declared.cmp.Ordering.{Ordering}
+use Rattle.std.specs.Prelude.{◌≡◌, ◌⊎◌, List, Some, map}
 use Rattle.pw_defs.specs.Values.{value_cmp}
 use Rattle.pw_defs.specs.declared.intent.RootList.{RootList}
 use Rattle.pw_defs.specs.declared.supplies.Supply.{Supply}

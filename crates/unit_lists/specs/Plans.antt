@@ -1,5 +1,5 @@
 -- What a network says of roots as units see them: which are seen, what is given on them, and where their values go.
-use Rattle.std.specs.Prelude.{◌≡◌, ℕ, ◌<◌, ◌⊎◌, List, Some, slice_get}
+use Rattle.std.specs.Prelude.{◌≡◌, ℕ, ◌⊎◌, List, Some, slice_get}
 use Rattle.pw_defs.specs.declared.intent.Unit.{Unit as PowerUnit}
 use Rattle.pw_defs.specs.declared.supplies.Said.{Said}
 use Rattle.pw_defs.specs.declared.supplies.Supply.{Supply}

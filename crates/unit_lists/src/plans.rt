@@ -271,11 +271,7 @@ fn plan_supplies(plan: &mut Plan, supplies: &List<Supply>) -> Result<(), Memory>
 }
 
 /// Adds the links from the ports of all units.
-fn plan_units(
-    plan: &mut Plan,
-    supplies: &List<Supply>,
-    units: &List<Unit>,
-) -> Result<(), Memory>
+fn plan_units(plan: &mut Plan, supplies: &List<Supply>, units: &List<Unit>) -> Result<(), Memory>
     requires feeders { AreFeeders supplies.now }
     requires ports { ArePortsInRange supplies.now units.now }
     ensures { OnOk result (Plans supplies.now plan.old plan.new (λ all. all ≡ units.now)

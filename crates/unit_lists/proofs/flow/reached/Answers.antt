@@ -1,4 +1,4 @@
-use Rattle.std.proofs.Common.{◌∷◌, [], ◌++◌, refl, subst}
+use Rattle.std.proofs.Common.{◌∷◌, [], ◌++◌, refl}
 use Rattle.unit_lists.proofs.FlowLemmas.{flow_begins, flow_ends, same_flow}
 use Rattle.unit_lists.proofs.SetLemmas.{none_taken}
 use Rattle.unit_lists.proofs.flow.reached.Goals as goal
@@ -14,6 +14,6 @@ returns-in-None c =
 pub loop-preserved : goal.loop-preserved
 loop-preserved c =
     c.in_ok-take_up-in-Some.ensures c.args.begins.items (
-      same_flow c.args.begins.items c.args.links.now.keys c.loop.work.items (c.pop.new.self.items ++ (c.in-Some.view, c.in-Some.value) ∷ []) c.loop.reached.keys
-      c.in-Some.ensures.items c.loop.invariant
+    same_flow c.args.begins.items c.args.links.now.keys c.loop.work.items (c.pop.new.self.items ++ (c.in-Some.view, c.in-Some.value) ∷ []) c.loop.reached.keys
+    c.in-Some.ensures.items c.loop.invariant
     )

@@ -2,9 +2,8 @@ use Rattle.std.proofs.Common.{List, ◌++◌, map, ap, ◌∙◌}
 use Rattle.std.proofs.lemmas.Bool.{OnFalse_at}
 use Rattle.std.specs.BTreeMap.{is_at}
 use Rattle.std.specs.List.{list_any}
-use Rattle.unit_lists.proofs.SetLemmas.{exact_at_views, exact_values, gains_by, key_from, not_added, value_ord}
+use Rattle.unit_lists.proofs.SetLemmas.{at_view_cmp, exact_at_views, exact_values, gains_by, key_from, not_added, value_ord}
 use Rattle.unit_lists.proofs.FlowLemmas.{flow_known, flow_on}
-use Rattle.unit_lists.specs.Views.{at_view_cmp}
 use Rattle.unit_lists.specs.declared.views.View.{View}
 use Rattle.unit_lists.proofs.flow.take_up.Goals as goal
 

@@ -1,4 +1,4 @@
-use Rattle.std.proofs.Common.{◌≡◌, Some, false, true, sym, ◌∙◌}
+use Rattle.std.proofs.Common.{◌≡◌, Some, sym, ◌∙◌}
 use Rattle.std.proofs.lemmas.Bool.{false≢true}
 use Rattle.pw_defs.specs.declared.supplies.SupplyKind.TheVariants.{SwitchOut}
 use Rattle.list_defs.specs.Members.{IsIn}

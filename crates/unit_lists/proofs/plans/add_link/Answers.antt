@@ -1,5 +1,5 @@
-use Rattle.unit_lists.proofs.SetLemmas.{exact_at_views, exact_views, gains_by}
-use Rattle.unit_lists.specs.Views.{at_view_cmp, view_cmp}
+use Rattle.unit_lists.proofs.SetLemmas.{at_view_cmp, exact_at_views, exact_views, gains_by}
+use Rattle.unit_lists.specs.Views.{view_cmp}
 use Rattle.unit_lists.proofs.plans.add_link.Goals as goal
 
 pub returns : goal.returns

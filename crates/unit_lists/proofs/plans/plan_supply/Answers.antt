@@ -1,6 +1,5 @@
 use Rattle.std.proofs.Common.{◌≡◌, ℕ, List, Some, sym, ◌∙◌, subst}
 use Rattle.std.proofs.lemmas.Bool.{false≢true}
-use Rattle.pw_defs.specs.declared.supplies.Supply.{Supply}
 use Rattle.list_defs.specs.Members.{IsIn}
 use Rattle.unit_lists.proofs.GatherLemmas.{plain_whole, switch_whole}
 use Rattle.unit_lists.proofs.SetLemmas.{item_is}

@@ -1,4 +1,4 @@
-use Rattle.std.proofs.Common.{◌≡◌, List, Some, slice_get, sym, ap, ◌∙◌, arith}
+use Rattle.std.proofs.Common.{◌≡◌, List, Some, slice_get, ap, ◌∙◌, arith}
 use Rattle.pw_defs.specs.declared.intent.Unit.{Unit as PowerUnit}
 use Rattle.unit_lists.specs.Plans.{IsUnitPlanned}
 use Rattle.unit_lists.proofs.GatherLemmas.{all_gathered, one_more_at, unit_at, unit_stays}

@@ -22,8 +22,7 @@ loop-step-preserved c =
     record {
       there = c.requires.feeders.in_range at c.in-Some.feeder step;
       roots = λ units kept root.
-          let known = h.roots units kept root in
-          (
+          let known = h.roots units kept root in (
             still_roots s units c.loop-step.roots c.insert.new.self here c.args.root known.0 known.1 c.in_ok-insert.ensures.updates.0,
             root_at_feeder s units c.loop-step.roots here c.in-Some.feeder c.args.root known.0 (none_there _ c.contains_key.result c.contains_key.ensures c.if-contains_key.false) step known.1,
           );

@@ -1,4 +1,4 @@
-use Rattle.std.proofs.Common.{ℕ, ◌<◌, List, length}
+use Rattle.std.proofs.Common.{◌<◌, List, length}
 use Rattle.pw_defs.specs.declared.intent.Unit.{Unit as PowerUnit}
 use Rattle.supply_defs.specs.UnitViews.{IsRootIn}
 use Rattle.unit_lists.specs.Roots.{AreRoots}

@@ -1,4 +1,4 @@
-use Rattle.std.proofs.Common.{None, Some, sym, ◌∙◌, subst, arith}
+use Rattle.std.proofs.Common.{None, Some, sym, arith}
 use Rattle.supply_defs.specs.Network.{IsRoot, IsUnfed, IsFedBy}
 use Rattle.supply_net.proofs.RootLemmas.{none_passed, passed_on, few_steps, feeder_there}
 use Rattle.unit_lists.proofs.RootLemmas.{kept_root, root_from_feeder}

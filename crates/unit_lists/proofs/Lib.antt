@@ -7,3 +7,4 @@ pub mod StepLemmas
 pub mod GatherLemmas
 pub mod ListLemmas
 pub mod ValueLaws
+pub mod WorkedLists

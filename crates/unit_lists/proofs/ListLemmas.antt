@@ -15,7 +15,7 @@ use Rattle.list_defs.specs.Members.{IsIn}
 use Rattle.list_defs.specs.Orders.{AreAllRising, IsRising}
 use Rattle.list_defs.proofs.Members.{IsIn-append_left, IsIn-append_right, IsIn-append_cases}
 use Rattle.supply_defs.specs.UnitViews.{kind_at}
-use Rattle.unit_lists.specs.Lists.{AreListsOf, BeginsBy, IsOwnValue, root_of_list}
+use Rattle.unit_lists.specs.Lists.{AreListsOf, IsOwnValue, root_of_list}
 use Rattle.unit_lists.specs.Views.{view_cmp}
 use Rattle.unit_lists.specs.declared.views.View.{View}
 use Rattle.unit_lists.proofs.ListedLemmas.{rising_from_sorted}

@@ -1,12 +1,10 @@
 //! The lists of values, from a plan and the values that come to its roots.
 ghost use Rattle.std.specs.Prelude.{◌≡◌, ◌↔◌, IfOk, IsTrue, OnOk, Some};
 ghost use Rattle.list_defs.specs.Members.{IsIn};
-ghost use Rattle.list_defs.specs.Orders.{AreAllRising};
-ghost use Rattle.pw_defs.specs.Values.{value_cmp};
-ghost use Rattle.supply_defs.specs.Network.{HasFeedersInRange, HasNoFeederRing};
-ghost use Rattle.supply_defs.specs.UnitViews.{kind_at};
 ghost use Rattle.pw_defs.specs.declared.supplies.SupplyKind.TheVariants.{SwitchOut};
+ghost use Rattle.supply_defs.specs.Network.{HasFeedersInRange, HasNoFeederRing};
 ghost use Rattle.supply_defs.specs.UnitLists.{AreUnitLists};
+ghost use Rattle.supply_defs.specs.UnitViews.{kind_at};
 ghost use Rattle.unit_lists.specs.Lists.{AreListsOf, BeginsBy};
 ghost use Rattle.unit_lists.specs.Ranges.{AreInputsInRange, ArePortsInRange};
 
@@ -66,6 +64,8 @@ fn lists_of(
 }
 
 /// The lists of values of a network: by unit, and within a unit by root, one for each root that the unit sees.
+///
+/// Switches may stand in a ring. A unit whose number is past `units` is taken for one without ports.
 pub fn unit_lists(
     alloc: Global,
     supplies: &List<Supply>,

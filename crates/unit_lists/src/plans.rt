@@ -12,7 +12,6 @@ ghost use Rattle.supply_net.specs.Feeders.{AreFeeders};
 ghost use Rattle.unit_lists.specs.Kept.{Gains};
 ghost use Rattle.unit_lists.specs.Plans.{Always, IsInputPlanned, IsPortPlanned, IsSaidPlanned, IsSeenPlanned, IsSupplyPlanned, IsUnitPlanned, IsWholePlan, Meets, Plans};
 ghost use Rattle.unit_lists.specs.Ranges.{AreInputsInRange, ArePortsInRange};
-ghost use Rattle.unit_lists.specs.declared.views.View.{View as AnyView};
 
 use crate::roots::{find_root, roots_of_ends};
 use crate::views::View;

@@ -1,0 +1,10 @@
+pub mod SetLemmas
+pub mod ListedLemmas
+pub mod FlowLemmas
+pub mod RootLemmas
+pub mod PlanLemmas
+pub mod StepLemmas
+pub mod GatherLemmas
+pub mod ListLemmas
+pub mod ValueLaws
+pub mod WorkedLists

@@ -1,0 +1,9 @@
+//! What the names of a script stand for in a design, by paths, and the units that soft macros make.
+//!
+//! A `Hierarchy` is a sound design whose instances are found by their paths, without a look at each of them. Everything is
+//! answered as `script_defs/Scopes` and `script_defs/DesignParts` say it of all instances.
+#![tactic(auto)]
+
+mod instances;
+
+pub use instances::{Hierarchy, instance_at};

@@ -1,2 +1,3 @@
 mod FirstLemmas
 pub mod PathLemmas
+mod MarkLemmas

@@ -5,5 +5,7 @@
 #![tactic(auto)]
 
 mod instances;
+mod marks;
 
 pub use instances::{Hierarchy, instance_at};
+pub use marks::Marks;

@@ -1,3 +1,4 @@
 mod FirstLemmas
 pub mod PathLemmas
 mod MarkLemmas
+pub mod ChainLemmas

@@ -17,7 +17,7 @@ use Rattle.design_defs.specs.Ports.{body_of}
 use Rattle.design_defs.specs.Resolves.{HasNameBelow, Resolves, ResolvesToNothing}
 use Rattle.design_defs.proofs.Resolving.{one_named_below}
 use Rattle.script_defs.specs.Numbers.{inst_number}
-use Rattle.script_defs.specs.Scopes.{instance_at}
+use Rattle.script_defs.specs.Scopes.{body_at, instance_at}
 use Rattle.script_scopes.specs.Standing.{HasOwnPaths, IsHierarchy, IsNumberAt, named_inst, own_path}
 use Rattle.script_scopes.proofs.FirstLemmas.{find_none, find_one, place_none, place_one}
 
@@ -116,6 +116,12 @@ module _ (d : Design) (h : IsHierarchy d) where
         there = here.1;
         found = find_one (λ (i : Instance). same_name path i.path) d.insts n here.0 here.1 pass (λ m y there passes. one_path m n path (at_test path m y there passes) is);
       }
+
+  pub inst_at_own : (n : ℕ) → n < length d.insts → instance_at d (own_path d n) ≡ slice_get d.insts n
+  inst_at_own n within = let is = own_paths n (own_path d n) (path_there d n within) in is.found ∙ sym is.there
+
+  pub body_at_own : (n : ℕ) → n < length d.insts → body_at d (own_path d n) ≡ body_of d n
+  body_at_own n within = ap (option_map (λ (i : Instance). i.body)) (inst_at_own n within)
 
   pub number_is : (n : ℕ) (path : List ℕ) → path_of d n ≡ Some path → inst_number d path ≡ n
   number_is n path is =

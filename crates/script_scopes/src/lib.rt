@@ -4,8 +4,10 @@
 //! answered as `script_defs/Scopes` and `script_defs/DesignParts` say it of all instances.
 #![tactic(auto)]
 
+mod bodies;
 mod instances;
 mod marks;
 
+pub use bodies::{body_at, body_of, is_leaf_cell, is_model, is_modelled, is_module, type_name};
 pub use instances::{Hierarchy, instance_at};
 pub use marks::Marks;

@@ -2,3 +2,4 @@ mod FirstLemmas
 pub mod PathLemmas
 mod MarkLemmas
 pub mod ChainLemmas
+mod UnitLemmas

@@ -35,7 +35,7 @@ module _ (d : Design) (h : IsHierarchy d) where
           absurd (false≢true (sym f ∙ subst (λ p. same_name (own_path d n) p ≡ true) same (same_name-itself (own_path d n))))
       by false e true f = absurd (false≢true (sym e ∙ eq-eqb n m (told (same_name-equal (own_path d n) (own_path d m) f))))
 
-  told_there : (n m : ℕ) → n < length d.insts → m < length d.insts → own_path d n ≡ own_path d m → n ≡ m
+  pub told_there : (n m : ℕ) → n < length d.insts → m < length d.insts → own_path d n ≡ own_path d m → n ≡ m
   told_there n m in_n in_m same = one_path d h n m (own_path d m) (path_there d n in_n ∙ ap Some same) (path_there d m in_m)
 
   told_later : (n m : ℕ) → n < length d.insts → 0 < n → own_path d n ≡ own_path d m → n ≡ m

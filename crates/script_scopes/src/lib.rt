@@ -7,7 +7,11 @@
 mod bodies;
 mod instances;
 mod marks;
+mod units;
 
 pub use bodies::{body_at, body_of, is_leaf_cell, is_model, is_modelled, is_module, type_name};
 pub use instances::{Hierarchy, instance_at};
 pub use marks::Marks;
+pub use units::{
+    is_far_inside, is_inside, is_soft_macro, is_unit, macro_inside, macros_inside, nesting, unit_of,
+};

@@ -1,5 +1,5 @@
 -- What stands at or above an instance, as paths and as steps upward.
-use Rattle.std.proofs.Common.{◌≡◌, ◌≢◌, ℕ, zero, suc, ◌<◌, ◌≤◌, ◌↔◌, Bool, true, false, not, ◌||◌, cond, List, [], ◌∷◌, length, filter, Some, ◌⊎◌, inl, inr, refl, sym, ap, ◌∙◌, subst, arith}
+use Rattle.std.proofs.Common.{◌≡◌, ◌≢◌, ℕ, zero, suc, ◌<◌, ◌≤◌, ◌↔◌, Bool, true, false, IsTrue, not, ◌||◌, cond, List, [], ◌∷◌, length, filter, Option, None, Some, MatchOption, ◌⊎◌, inl, inr, refl, sym, ap, ◌∙◌, subst, arith}
 use Rattle.std.proofs.lemmas.Bool.{or_cases}
 use Rattle.list_defs.specs.Members.{same_name}
 use Rattle.list_defs.proofs.NameLemmas.{same_name-equal, same_name-itself}
@@ -107,3 +107,16 @@ module _ (d : Design) (h : IsHierarchy d) where
     above_top first =
         let alone : chain d n ≡ own_path d n ∷ [] = ap (chain d) first ∙ top_chain ∙ ap (λ k. own_path d k ∷ []) (sym first) in
         ap others (at_chain d h n in_n ∙ alone) ∙ without []
+
+  pub outer_cases : (n : ℕ) → n < length d.insts → (r : Option ℕ) → parent_of d n ≡ Some r
+      → MatchOption r (above d (own_path d n) ≡ []) (λ p. (p < length d.insts) × (above d (own_path d n) ≡ at_or_above d (own_path d p)))
+  outer_cases zero within None parent = above_top zero within refl
+  outer_cases (suc n) within None parent = let other = parent_there d h (suc n) (omega arith) within in let is = other.1 in cc
+  outer_cases n within (Some p) parent = (parent_within n p within parent, above_inner n within p parent)
+
+-- two answers to one question are the same
+pub same_answer : (P : Type 0) (a b : Bool) → IsTrue a ↔ P → (b ≡ true) ↔ P → a ≡ b
+same_answer P true true one other = refl
+same_answer P false false one other = refl
+same_answer P true false one other = sym (other.1 (one.0 refl))
+same_answer P false true one other = one.1 (other.0 refl)

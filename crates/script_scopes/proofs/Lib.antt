@@ -7,3 +7,4 @@ mod ListedLemmas
 mod AboveLemmas
 mod PartLists
 mod PartLemmas
+mod FrontLemmas

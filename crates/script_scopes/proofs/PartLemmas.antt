@@ -1,5 +1,5 @@
 -- What is found along the list of all parts of a hierarchy is what a name stands for.
-use Rattle.std.proofs.Common.{◌≡◌, ℕ, zero, suc, ◌<◌, Bool, true, false, ◌&&◌, List, [], ◌∷◌, length, Option, None, Some, MatchOption, slice_get, refl, sym, ap, ◌∙◌, subst, arith}
+use Rattle.std.proofs.Common.{◌≡◌, ℕ, zero, suc, ◌<◌, Bool, true, false, ◌&&◌, List, [], length, codes, cond, Option, None, Some, MatchOption, slice_get, refl, sym, ap, ◌∙◌, subst, arith}
 use Rattle.std.specs.List.{find}
 use Rattle.std.specs.Option.{option_map}
 use Rattle.std.proofs.lemmas.Bool.{and_parts, false≢true}
@@ -13,8 +13,8 @@ use Rattle.design_defs.specs.Alike.{IsAtOrBelow}
 use Rattle.design_defs.specs.Joined.{HasJoinedName, parent_of, path_of}
 use Rattle.design_defs.specs.Names.{joined}
 use Rattle.design_defs.specs.Resolves.{HasNameBelow, Resolves, ResolvesToNothing, StandsBelow}
-use Rattle.script_defs.specs.DesignParts.{DesignPart, design_parts, is_below, numbered, own_part, part_at}
-use Rattle.script_defs.specs.Scopes.{above, is_one_of}
+use Rattle.script_defs.specs.DesignParts.{DesignPart, design_parts, is_below, numbered, own_part, part_at, part_from}
+use Rattle.script_defs.specs.Scopes.{above, is_one_of, path_from}
 use Rattle.script_scopes.specs.Parts.{owner_of, part_of}
 use Rattle.script_scopes.specs.Standing.{IsHierarchy, own_path}
 use Rattle.script_scopes.proofs.AboveLemmas.{above_inner, above_top, one_above}
@@ -105,6 +105,19 @@ module _ (d : Design) (h : IsHierarchy d) where
             let number : f.0 ≡ s = one_path d h f.0 s (own_path d s) path (path_there d s in_s) in
             let inst : f.1 ≡ (inst_there d s in_s).0 = once (sym at ∙ ap (slice_get d.insts) number ∙ (inst_there d s in_s).1) in
             ap (λ n. (n, f.1)) number ∙ ap (λ i. (s, i)) inst
+
+    -- a word from the scope
+    module _ (word : List ℕ) where
+      pub dot_part : same_name word (codes ".") ≡ true → part_from d (own_path d s) word ≡ Some (part_of d (path_from (own_path d s) word) (InstanceNamed s))
+      dot_part e =
+          ap (λ b. cond b (own_part d (own_path d s)) (find (λ x. same_name (joined (own_path d s) word) x.name && is_below d (own_path d s) x) (design_parts d))) e
+          ∙ own_found ∙ ap (λ b. Some (part_of d (cond b (own_path d s) (joined (own_path d s) word)) (InstanceNamed s))) (sym e)
+
+      pub word_part : same_name word (codes ".") ≡ false → (r : Option Named) → MatchOption r (ResolvesToNothing d s word) (λ x. Resolves d s word x)
+          → part_from d (own_path d s) word ≡ option_map (part_of d (path_from (own_path d s) word)) r
+      word_part e r is =
+          ap (λ b. cond b (own_part d (own_path d s)) (find (λ x. same_name (joined (own_path d s) word) x.name && is_below d (own_path d s) x) (design_parts d))) e
+          ∙ found_below word r is ∙ ap (λ b. option_map (part_of d (cond b (own_path d s) (joined (own_path d s) word))) r) (sym e)
 
   -- FROM THE TOP. Whatever has a joined name stands below the top.
   stands_below_top : (x : Named) (name : List ℕ) → HasJoinedName d x name → StandsBelow d 0 x

@@ -79,7 +79,7 @@ fn has_empty_top(alloc: Global, design: &Design) -> Result<bool, Memory>
 }
 
 /// The number of what a name stands for, where it is an instance.
-pub(crate) fn named_inst(named: Option<Named>) -> Option<u32>
+pub fn named_inst(named: Option<Named>) -> Option<u32>
     ensures { result ≡ named_inst named }
 {
     match named? {

@@ -12,10 +12,12 @@ mod parts;
 mod units;
 
 pub use bodies::{body_at, body_of, is_leaf_cell, is_model, is_modelled, is_module, type_name};
-pub use instances::{Hierarchy, instance_at};
+pub use instances::{Hierarchy, instance_at, named_inst};
 pub use joining::{begins_below, join, join_from, shown_path};
 pub use marks::Marks;
-pub use parts::{body_of_part, is_whole_port, outer_of, owner_of, part_at, part_from, stands_in};
+pub use parts::{
+    body_of_part, is_whole_port, outer_of, owner_of, part_at, part_from, stands_in, words_resolve,
+};
 pub use units::{
     is_far_inside, is_inside, is_soft_macro, is_unit, macro_inside, macros_inside, nesting, unit_of,
 };

@@ -1,10 +1,11 @@
 //! What the words of a script stand for in a design: instances, ports and pins, and bits of vector ports.
-ghost use Rattle.std.specs.Prelude.{◌≡◌, ◌<◌, ℕ, List, [], length, MatchOption};
+ghost use Rattle.std.specs.Prelude.{◌≡◌, ◌<◌, ℕ, List, [], Some, length, IfSome, MatchOption};
 ghost use Rattle.std.specs.Option.{option_map};
+ghost use Rattle.design_defs.specs.Joined.{path_of};
 ghost use Rattle.script_defs.specs.DesignParts.{body_of_part, is_whole_port, part_at, part_from};
 ghost use Rattle.script_defs.specs.Scopes.{above, at_or_above, is_one_of, path_from};
-ghost use Rattle.script_scopes.specs.Parts.{owner_of, part_of};
-ghost use Rattle.script_scopes.specs.Standing.{own_path};
+ghost use Rattle.script_scopes.specs.Parts.{DoOthersNot, DoWordsResolve, owner_of, part_of};
+ghost use Rattle.script_scopes.specs.Standing.{named_inst, own_path};
 
 use crate::bodies::{body_of, is_leaf_cell};
 use crate::instances::Hierarchy;
@@ -14,7 +15,9 @@ use pw_defs::{Body, Named};
 
 /// The part of the design with a whole name.
 pub fn part_at(hierarchy: &Hierarchy, name: &[u8]) -> Option<Named>
-    ensures { part_at hierarchy.now name.now ≡ option_map (part_of hierarchy.now name.now) result }
+    ensures part { part_at hierarchy.now name.now ≡ option_map (part_of hierarchy.now name.now) result }
+    ensures within { IfSome result (λ x. owner_of x < length hierarchy.now.insts) }
+    ensures path { IfSome (named_inst result) (λ n. path_of hierarchy.now n ≡ Some name.now) }
 {
     hierarchy.sound();
     resolve(hierarchy.design(), 0, name)
@@ -23,14 +26,24 @@ pub fn part_at(hierarchy: &Hierarchy, name: &[u8]) -> Option<Named>
 /// The part of the design that a word names from the instance of a scope; `.` is that instance itself.
 pub fn part_from(hierarchy: &Hierarchy, scope: u32, word: &[u8]) -> Option<Named>
     requires { scope < length hierarchy.now.insts }
-    ensures { part_from hierarchy.now (own_path hierarchy.now scope) word.now
+    ensures part { part_from hierarchy.now (own_path hierarchy.now scope) word.now
         ≡ option_map (part_of hierarchy.now (path_from (own_path hierarchy.now scope) word.now)) result }
+    ensures within { IfSome result (λ x. owner_of x < length hierarchy.now.insts) }
+    ensures path { IfSome (named_inst result) (λ n. path_of hierarchy.now n ≡ Some (path_from (own_path hierarchy.now scope) word.now)) }
 {
     hierarchy.sound();
     if is_dot(word) {
         return Some(Named::Instance(scope));
     }
     resolve(hierarchy.design(), scope, word)
+}
+
+/// A word other than `.` names from a scope exactly what it stands for below the instance of the scope.
+pub fn words_resolve(hierarchy: &Hierarchy)
+    ensures named { DoWordsResolve hierarchy.now }
+    ensures nothing { DoOthersNot hierarchy.now }
+{
+    hierarchy.sound();
 }
 
 /// The instance that a part is, or that it is a part of.

@@ -1,5 +1,5 @@
 -- What stands at or above an instance, as paths and as steps upward.
-use Rattle.std.proofs.Common.{◌≡◌, ◌≢◌, ℕ, zero, suc, ◌<◌, ◌≤◌, ◌↔◌, Bool, true, false, IsTrue, not, ◌||◌, cond, List, [], ◌∷◌, length, filter, Option, None, Some, MatchOption, ◌⊎◌, inl, inr, refl, sym, ap, ◌∙◌, subst, arith}
+use Rattle.std.proofs.Common.{◌≡◌, ◌≢◌, ℕ, zero, suc, ◌<◌, ◌≤◌, ◌↔◌, Bool, true, false, IsTrue, not, ◌||◌, cond, List, [], ◌∷◌, length, filter, Option, None, Some, MatchOption, inl, inr, refl, sym, ap, ◌∙◌, arith}
 use Rattle.std.proofs.lemmas.Bool.{or_cases}
 use Rattle.list_defs.specs.Members.{same_name}
 use Rattle.list_defs.proofs.NameLemmas.{same_name-equal, same_name-itself}
@@ -10,7 +10,7 @@ use Rattle.script_defs.specs.Scopes.{above, at_or_above, is_one_of}
 use Rattle.script_scopes.specs.Standing.{IsHierarchy, own_path}
 use Rattle.script_scopes.proofs.ChainLemmas.{at_chain, chain, chain_top, chain_up}
 use Rattle.script_scopes.proofs.MarkLemmas.{told_there}
-use Rattle.script_scopes.proofs.PathLemmas.{own_path_is, parent_there, path_within}
+use Rattle.script_scopes.proofs.PathLemmas.{own_path_is, parent_there}
 
 or_later : (a b : Bool) → b ≡ true → (a || b) ≡ true
 or_later true b e = refl

@@ -1,9 +1,9 @@
 -- The paths of an instance and of those above it, step by step.
-use Rattle.std.proofs.Common.{◌≡◌, ℕ, zero, suc, ◌<◌, List, [], ◌∷◌, length, Option, None, Some, slice_get, option_and_then, inl, inr, refl, sym, ap, ◌∙◌, subst, arith}
+use Rattle.std.proofs.Common.{◌≡◌, ℕ, zero, suc, ◌<◌, List, [], ◌∷◌, length, Option, None, Some, slice_get, option_and_then, refl, sym, ap, ◌∙◌, arith}
 use Rattle.std.specs.Option.{option_map}
 use Rattle.pw_defs.specs.declared.design.Design.{Design}
 use Rattle.pw_defs.specs.declared.design.Instance.{Instance}
-use Rattle.design_defs.specs.Joined.{parent_of, path_of}
+use Rattle.design_defs.specs.Joined.{parent_of}
 use Rattle.script_defs.specs.Scopes.{at_or_above, paths_up}
 use Rattle.script_scopes.specs.Standing.{IsHierarchy, own_path}
 use Rattle.script_scopes.proofs.PathLemmas.{inst_at_own, inst_there, once, own_path_is, top_parent, top_within}

@@ -1,5 +1,5 @@
 -- Marked instances by number are marked instances by path.
-use Rattle.std.proofs.Common.{◌≡◌, ℕ, ◌<◌, Bool, true, false, cond, nat_eq, ◌||◌, List, [], ◌∷◌, ◌++◌, length, map, Option, None, Some, Result, Ok, Err, OnOk, OnErr, slice_get, unwrap_or, inl, inr, refl, sym, ap, ◌∙◌, subst, arith}
+use Rattle.std.proofs.Common.{◌≡◌, ℕ, ◌<◌, Bool, true, false, cond, nat_eq, ◌||◌, List, [], ◌∷◌, ◌++◌, length, Option, Some, Result, Ok, Err, OnOk, OnErr, unwrap_or, inl, inr, refl, sym, ap, ◌∙◌, subst}
 use Rattle.std.specs.List.{list_any}
 use Rattle.std.specs.Option.{option_map}
 use Rattle.std.proofs.lemmas.Bool.{eq-eqb, eqb-true, false≢true}
@@ -10,7 +10,6 @@ use Rattle.list_defs.proofs.Members.{IsIn-append_cases}
 use Rattle.list_defs.proofs.NameLemmas.{same_name-equal, same_name-itself}
 use Rattle.pw_defs.specs.declared.design.Design.{Design}
 use Rattle.pw_defs.specs.declared.design.Instance.{Instance}
-use Rattle.design_defs.specs.Joined.{path_of}
 use Rattle.script_defs.specs.Scopes.{is_one_of}
 use Rattle.script_defs.specs.UnitSteps.{with_mark}
 use Rattle.script_scopes.specs.Marked.{AreThere, marked, with_number}

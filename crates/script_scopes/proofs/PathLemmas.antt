@@ -4,7 +4,7 @@ use Rattle.std.specs.Option.{option_map}
 use Rattle.std.proofs.lemmas.Bool.{eqb-true}
 use Rattle.std.proofs.lemmas.List.{nil_from_length}
 use Rattle.std.proofs.lemmas.Option.{slice_get_cases, slice_get_within}
-use Rattle.list_defs.specs.Members.{same_name, place_of}
+use Rattle.list_defs.specs.Members.{same_name}
 use Rattle.list_defs.proofs.NameLemmas.{place_of-map, same_name-equal, same_name-itself}
 use Rattle.pw_defs.specs.declared.design.Design.{Design}
 use Rattle.pw_defs.specs.declared.design.Instance.{Instance}

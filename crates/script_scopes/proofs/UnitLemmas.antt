@@ -1,5 +1,5 @@
 -- Soft macros and units along the instances above one.
-use Rattle.std.proofs.Common.{◌≡◌, ◌≢◌, ℕ, zero, suc, ◌+◌, ◌<◌, ◌≤◌, Bool, true, false, not, ◌&&◌, ◌||◌, cond, nat_eq, List, [], ◌∷◌, length, filter, Option, None, Some, MatchOption, is_some, unwrap_or, inl, inr, refl, sym, ap, ◌∙◌, subst, arith}
+use Rattle.std.proofs.Common.{◌≡◌, ◌≢◌, ℕ, zero, suc, ◌+◌, ◌<◌, ◌≤◌, Bool, true, false, not, ◌&&◌, ◌||◌, cond, nat_eq, List, [], ◌∷◌, length, filter, Option, None, Some, MatchOption, is_some, unwrap_or, inl, inr, refl, sym, ap, ◌∙◌, arith}
 use Rattle.std.specs.List.{find, list_any, take_while}
 use Rattle.std.proofs.lemmas.Bool.{cases_eq, false≢true}
 use Rattle.std.proofs.lemmas.List.Sums.{take_while-cons}
@@ -62,12 +62,6 @@ module _ (d : Design) (h : IsHierarchy d) where
   not_top marks (suc n) e = omega arith
 
   module _ (numbers : List ℕ) where
-    marks : List (List ℕ)
-    marks = marked d numbers
-
-    P : List ℕ → Bool
-    P = is_soft_macro d (marked d numbers)
-
     pub macro_top : (n : ℕ) → n ≡ 0 → false ≡ is_soft_macro d (marked d numbers) (own_path d n)
     macro_top n first = sym (ap (is_soft_macro d (marked d numbers)) (ap (own_path d) first ∙ top_path))
 
@@ -147,10 +141,6 @@ module _ (d : Design) (h : IsHierarchy d) where
 
     -- MACROS INSIDE
     module _ (unit : ℕ) (in_unit : unit < length d.insts) where
-      -- whether a path is no longer that of the unit
-      inner : List ℕ → Bool
-      inner p = not (same_name p (own_path d unit))
-
       along : List (List ℕ) → List (List ℕ)
       along ps = filter (is_soft_macro d (marked d numbers)) (take_while (λ p. not (same_name p (own_path d unit))) ps)
 

@@ -1,5 +1,5 @@
 //! Instances by their paths.
-ghost use Rattle.std.specs.Prelude.{◌≡◌, ◌<◌, [], None, Some, length, unwrap_or, IfOk, IfSome, IsTrue, MatchOption};
+ghost use Rattle.std.specs.Prelude.{◌≡◌, ◌<◌, ◌↔◌, [], None, Some, length, unwrap_or, IfOk, IfSome, IsTrue, MatchOption};
 ghost use Rattle.design_defs.specs.Joined.{path_of};
 ghost use Rattle.script_defs.specs.Numbers.{inst_number};
 ghost use Rattle.script_defs.specs.Scopes.{instance_at};
@@ -70,7 +70,7 @@ impl<'a> Hierarchy<'a> {
 
 /// Whether the path of the top is empty.
 fn has_empty_top(alloc: Global, design: &Design) -> Result<bool, Memory>
-    ensures { IfOk result (λ empty. IsTrue empty → path_of design.now 0 ≡ Some []) }
+    ensures { IfOk result (λ empty. IsTrue empty ↔ (path_of design.now 0 ≡ Some [])) }
 {
     design.sound();
     let mut path = Bytes::new(alloc);

@@ -1,9 +1,7 @@
 use Rattle.std.proofs.Common.{ℕ, Option, Some, MatchOption, sym, subst}
 use Rattle.pw_defs.specs.declared.design.Design.{Design}
-use Rattle.pw_defs.specs.declared.design.Named.{Named}
 use Rattle.design_defs.specs.Resolves.{Resolves, ResolvesToNothing}
-use Rattle.script_scopes.specs.Standing.{named_inst}
-use Rattle.script_scopes.proofs.PathLemmas.{IsFound, found_at, no_text, some_text, top_at, walked}
+use Rattle.script_scopes.proofs.PathLemmas.{IsFound, no_text, some_text, top_at, walked}
 use Rattle.script_scopes.proofs.instances.instance_at.Goals as goal
 use Rattle.script_scopes.proofs.instances.instance_at.Goals.{After-named_inst, Then-is_empty}
 

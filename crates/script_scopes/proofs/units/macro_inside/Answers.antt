@@ -1,4 +1,4 @@
-use Rattle.std.proofs.Common.{◌≡◌, ◌≢◌, ◌∷◌, cond, sym, ap, ◌∙◌, arith}
+use Rattle.std.proofs.Common.{◌∷◌, cond, sym, ap, ◌∙◌, arith}
 use Rattle.script_scopes.specs.Marked.{marked}
 use Rattle.script_scopes.specs.Standing.{own_path}
 use Rattle.script_scopes.specs.Units.{macros_from}

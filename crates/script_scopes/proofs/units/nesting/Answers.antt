@@ -1,4 +1,4 @@
-use Rattle.std.proofs.Common.{◌≡◌, ℕ, filter, length, sym, ap, ◌∙◌, arith}
+use Rattle.std.proofs.Common.{◌≡◌, filter, length, sym, ap, ◌∙◌, arith}
 use Rattle.script_scopes.specs.Marked.{marked}
 use Rattle.script_scopes.specs.Units.{is_nesting_mark}
 use Rattle.script_scopes.proofs.ChainLemmas.{chain}

@@ -1,0 +1,4 @@
+pub mod Standing
+pub mod Marked
+pub mod Units
+pub mod Parts

@@ -3,7 +3,9 @@
 //! It meets `IsStatementOf` and `IsStatement` of `script_defs`.
 #![tactic(auto)]
 
+mod command_names;
 mod readings;
 mod statements;
 
+pub use command_names::CommandName;
 pub use statements::{Clause, Parts, StateOption, Statement};

@@ -1,1 +1,5 @@
 pub mod NamedCommands
+pub mod SaidLemmas
+pub mod StateLemmas
+pub mod ValueLemmas
+pub mod ZipLemmas

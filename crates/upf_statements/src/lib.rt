@@ -4,8 +4,13 @@
 #![tactic(auto)]
 
 mod command_names;
+mod lists;
 mod readings;
+mod reads;
+mod states;
 mod statements;
+mod values;
 
 pub use command_names::CommandName;
+pub use reads::{read_statement, statement_of};
 pub use statements::{Clause, Parts, StateOption, Statement};

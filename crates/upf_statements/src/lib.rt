@@ -7,8 +7,8 @@ mod command_names;
 mod lists;
 mod readings;
 mod reads;
-mod states;
 mod statements;
+mod states;
 mod values;
 
 pub use command_names::CommandName;

@@ -13,8 +13,8 @@ ghost use Rattle.script_defs.specs.ReadStatements.{IsListSaid, IsSaid};
 ghost use Rattle.upf_statements.specs.Said.{IsList, SayInList};
 ghost use Rattle.upf_statements.specs.Views.{parts_view};
 
-use crate::states::options_said;
 use crate::statements::Parts;
+use crate::states::options_said;
 use crate::values::volts;
 use pw_defs::{Bytes, List, Memory, TclFault, Value};
 use std::alloc::Global;

@@ -61,11 +61,7 @@ fn value_said(alloc: Global, form: Shape, value: &[u8]) -> Result<Parts, Memory>
 }
 
 /// What an option says: a flag nothing, a truth whether it is true, another one what its value says.
-pub(crate) fn option_said(
-    alloc: Global,
-    option: &OptionLine,
-    value: &[u8],
-) -> Result<Parts, Memory>
+pub(crate) fn option_said(alloc: Global, option: &OptionLine, value: &[u8]) -> Result<Parts, Memory>
     requires { IsTaken (arity_view option.now.behind) (form_view option.now.shape) value.now }
     ensures { IfOk result (λ parts. IsOptionSaid (arity_view option.now.behind) (form_view option.now.shape) value.now (parts_view parts)) }
 {

@@ -1,3 +1,4 @@
+pub mod BlockLemmas
 pub mod NamedCommands
 pub mod SaidLemmas
 pub mod StateLemmas

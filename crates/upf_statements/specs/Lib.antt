@@ -1,3 +1,4 @@
+pub mod Blocks
 pub mod CommandNames
 pub mod Said
 pub mod Taken

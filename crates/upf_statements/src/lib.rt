@@ -3,6 +3,7 @@
 //! It meets `IsStatementOf` and `IsStatement` of `script_defs`.
 #![tactic(auto)]
 
+mod blocks;
 mod command_names;
 mod lists;
 mod readings;
@@ -11,6 +12,7 @@ mod statements;
 mod states;
 mod values;
 
+pub use blocks::{Block, begins_model, blocks_of, ends_model};
 pub use command_names::CommandName;
 pub use reads::{read_statement, statement_of};
 pub use statements::{Clause, Parts, StateOption, Statement};

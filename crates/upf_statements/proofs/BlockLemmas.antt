@@ -1,5 +1,5 @@
 -- How lines are put together, line by line.
-use Rattle.std.proofs.Common.{◌≡◌, ℕ, suc, ◌+◌, ◌-◌, ◌<◌, ◌≤◌, Bool, true, false, cond, List, [], ◌∷◌, ◌++◌, Option, Some, None, length, get_or, take, drop, slice_get, slice_range, refl, sym, ap, ◌∙◌, subst, arith, append_assoc, append-nil, add-one, drop-cons, length-drop}
+use Rattle.std.proofs.Common.{◌≡◌, ℕ, suc, ◌+◌, ◌-◌, ◌<◌, true, false, cond, List, [], ◌∷◌, ◌++◌, Option, Some, None, length, get_or, take, drop, slice_get, slice_range, refl, sym, ap, ◌∙◌, subst, arith, append_assoc, add-one, drop-cons, length-drop}
 use Rattle.std.proofs.Math.Seq.{drop-length}
 use Rattle.std.proofs.lemmas.List.{take_more, get_or-drop}
 use Rattle.std.proofs.lemmas.Option.{slice_get-get_or}
@@ -33,9 +33,6 @@ one_line_more lines at head line within is inside =
     let last : get_or rest (at - (head + 1)) line ≡ line =
     get_or-drop (head + 1) lines (at - (head + 1)) line ∙ ap (λ n. get_or lines n line) place ∙ sym is in
     ap (λ (l : Line). take (at - (head + 1)) rest ++ l ∷ []) (sym last) ∙ sym (take_more rest (at - (head + 1)) line there) ∙ ap (λ n. take n rest) (sym count)
-
-nothing_left : (lines : List Line) (at : ℕ) → at ≡ length lines → drop at lines ≡ []
-nothing_left lines at all = ap (λ n. drop n lines) all ∙ drop-length lines
 
 -- one line more
 plain_step : (line : Line) (rest : List Line) → begins_model line ≡ false
@@ -145,21 +142,14 @@ last_line lines at head blocks new line within is ends h grown =
     (record { head = was.3.head_is; inside = was.3.inside; within = omega arith; body = was.3.body; ended = refl }) grown
     (was.4 ∙ ap (λ bs. was.0 ++ bs) (ap (blocks_behind (Some was.1)) (lines_left lines at line within is) ∙ end_step was.1 line (drop (at + 1) lines) ends))
 
--- all lines were looked at
-pub all_closed : (lines : List Line) (at : ℕ) (blocks : List Block) → at ≡ length lines → AreBlocksSoFar lines at None blocks
-    → AllZip (IsBlockAt lines) blocks (blocks_of lines)
-all_closed lines at blocks all h =
-    let was = closed lines at blocks h in
-    let whole : blocks_of lines ≡ was.0 = was.2 ∙ ap (λ ls. was.0 ++ blocks_behind None ls) (nothing_left lines at all) ∙ append-nil was.0 in
-    subst (λ (bs : List PlainBlock). AllZip (IsBlockAt lines) blocks bs) (sym whole) was.1
-
-pub all_opened : (lines : List Line) (at head : ℕ) (blocks new : List Block) → at ≡ length lines → AreBlocksSoFar lines at (Some head) blocks
-    → new ≡ blocks ++ record { at = head; end = at; ended = false } ∷ [] → AllZip (IsBlockAt lines) new (blocks_of lines)
-all_opened lines at head blocks new all h grown =
-    let was = opened lines at head blocks h in
-    let b : Block = record { at = head; end = at; ended = false } in
+-- all lines were looked at, and a model is open
+pub all_opened : (lines : List Line) (head : ℕ) (blocks new : List Block) → AreBlocksSoFar lines (length lines) (Some head) blocks
+    → new ≡ blocks ++ record { at = head; end = length lines; ended = false } ∷ [] → AllZip (IsBlockAt lines) new (blocks_of lines)
+all_opened lines head blocks new h grown =
+    let was = opened lines (length lines) head blocks h in
+    let b : Block = record { at = head; end = length lines; ended = false } in
     let block : PlainBlock = record { head = was.1.0; body = was.1.1; ended = false } in
-    let whole : blocks_of lines ≡ was.0 ++ block ∷ [] = was.4 ∙ ap (λ ls. was.0 ++ blocks_behind (Some was.1) ls) (nothing_left lines at all) in
+    let whole : blocks_of lines ≡ was.0 ++ block ∷ [] = was.4 ∙ ap (λ ls. was.0 ++ blocks_behind (Some was.1) ls) (drop-length lines) in
     let is : IsBlockAt lines b block = record { head = was.3.head_is; inside = was.3.inside; within = omega arith; body = was.3.body; ended = refl } in
     let places = zip_push (IsBlockAt lines) blocks was.0 b block was.2 is in
     subst (λ (bs : List PlainBlock). AllZip (IsBlockAt lines) new bs) (sym whole)

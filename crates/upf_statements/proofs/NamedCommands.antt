@@ -1,13 +1,18 @@
 -- Which command a name is.
-use Rattle.std.proofs.Common.{◌≡◌, ◌⊎◌, inl, inr, ℕ, Bool, true, false, List, [], ◌∷◌, Option, Some, None, MatchOption, cond, find, refl, sym, ap, ◌∙◌, subst}
+use Rattle.std.proofs.Common.{◌≡◌, ◌⊎◌, inl, inr, Bool, true, false, List, [], ◌∷◌, Option, Some, None, MatchOption, cond, find, refl, sym, ap, ◌∙◌}
 use Rattle.list_defs.proofs.NameLemmas.{same_name-equal}
 use Rattle.script_defs.specs.Statements.{Statement, is_command}
 use Rattle.list_defs.specs.Members.{IsIn, same_name}
-use Rattle.upf_statements.specs.CommandNames.{all_commands, command_text}
+use Rattle.upf_statements.specs.CommandNames.{command_text}
 use Rattle.upf_statements.specs.declared.command_names.CommandName.{CommandName}
 use Rattle.upf_statements.specs.declared.command_names.CommandName.TheVariants.{CreateSupplyPort, CreateSupplyNet, ConnectSupplyNet, CreatePowerSwitch, CreateSupplySet, AssociateSupplySet, ConnectSupplySet, AddPortState, AddSupplyState, CreatePst, AddPstState, CreatePowerStateGroup, AddPowerState, CreatePowerDomain, SetIsolation, SetLevelShifter, SetDesignAttributes, SetPortAttributes, LoadUpf, SetScope, BeginPowerModel, EndPowerModel, ApplyPowerModel}
 
--- each command is one of all
+-- all commands
+abbrev pub all_commands : List CommandName
+all_commands =
+    CreateSupplyPort ∷ CreateSupplyNet ∷ ConnectSupplyNet ∷ CreatePowerSwitch ∷ CreateSupplySet ∷ AssociateSupplySet ∷ ConnectSupplySet ∷ AddPortState ∷ AddSupplyState ∷ CreatePst ∷ AddPstState ∷ CreatePowerStateGroup ∷ AddPowerState ∷ CreatePowerDomain ∷ SetIsolation ∷ SetLevelShifter ∷ SetDesignAttributes ∷ SetPortAttributes ∷ LoadUpf ∷ SetScope ∷ BeginPowerModel ∷ EndPowerModel ∷ ApplyPowerModel ∷ []
+
+-- each command is one of them
 is_known : (command : CommandName) → IsIn command all_commands
 is_known CreateSupplyPort = inl refl
 is_known CreateSupplyNet = inr (inl refl)

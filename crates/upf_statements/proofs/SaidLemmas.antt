@@ -1,11 +1,11 @@
 -- What the words of lists say.
-use Rattle.std.proofs.Common.{◌≡◌, ℕ, ◌≤◌, ◌<◌, List, [], ◌∷◌, drop, length, arith, inl, inr, refl, sym, ap, ◌∙◌, subst}
+use Rattle.std.proofs.Common.{◌≡◌, ℕ, ◌≤◌, List, [], ◌∷◌, drop, length, arith, inl, inr, refl, sym, ap, ◌∙◌, subst}
 use Rattle.std.specs.List.{AllZip}
 use Rattle.list_defs.specs.Members.{IsIn}
 use Rattle.tcl_words.proofs.ListLaws.{one_parting}
 use Rattle.tcl_words.specs.ListWords.{PartsInto}
 use Rattle.upf_commands.specs.Forms.{ListForm, list, pair, pairs, AreListOf, HasForm}
-use Rattle.upf_commands.specs.Values.{IsPair, ArePairs}
+use Rattle.upf_commands.specs.Values.{IsPair}
 use Rattle.upf_statements.specs.Said.{IsList}
 
 -- a list of a form has words of that form

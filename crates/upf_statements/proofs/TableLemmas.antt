@@ -5,7 +5,7 @@ use Rattle.std.specs.Cmp.Lexicographic.{bytes_decides}
 use Rattle.std.specs.List.{list_all}
 use Rattle.list_defs.specs.Members.{IsIn}
 use Rattle.tcl_words.proofs.VariableNames.{and_first, and_second}
-use Rattle.upf_commands.specs.CommandRows.{Arity, value, flag, truth, means, state, OptionRow, CommandRow}
+use Rattle.upf_commands.specs.CommandRows.{Arity, flag, truth, OptionRow, CommandRow}
 use Rattle.upf_commands.specs.CommandTable.{commands}
 use Rattle.upf_commands.specs.Forms.{WordForm, any, simple, set_name, handle, file, one_of, volts, ListForm, names, scope, columns, keyed, pair, attribute, switch_port, on_state, supply_state, power_state, Form, word, list, pairs}
 use Rattle.upf_commands.specs.CommandWords.{option_of, row_of}

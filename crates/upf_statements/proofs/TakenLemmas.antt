@@ -1,5 +1,5 @@
 -- The options of a command that a line is can be taken apart.
-use Rattle.std.proofs.Common.{◌≡◌, ℕ, Bool, true, false, ◌⊎◌, inl, inr, List, [], ◌∷◌, ◌++◌, Option, Some, None, IsSome, filter_map, refl, sym, ap, ◌∙◌, subst}
+use Rattle.std.proofs.Common.{◌≡◌, ℕ, Bool, true, false, inl, inr, List, [], ◌∷◌, ◌++◌, Some, IsSome, filter_map, refl, sym, ap, ◌∙◌, subst}
 use Rattle.std.proofs.lemmas.Bool.{false≢true}
 use Rattle.std.specs.List.{AllZip}
 use Rattle.list_defs.specs.Members.{IsIn}
@@ -15,7 +15,7 @@ use Rattle.script_defs.specs.Statements.{Clause}
 use Rattle.script_defs.specs.ReadStatements.{IsClauseOf}
 use Rattle.upf_statements.specs.Said.{IsClauseIn}
 use Rattle.upf_statements.specs.Taken.{IsOfSomeLine, IsTaken, IsTakenOption, IsTakenCommand, kept_option}
-use Rattle.upf_statements.proofs.TableLemmas.{are_alike, IsKeptAs, kept_as, option_in}
+use Rattle.upf_statements.proofs.TableLemmas.{are_alike, kept_as, option_in}
 
 -- what is known of an option's item: the option stands in the command's row, and a truth reads as one
 record IsItemOf (row : CommandRow) (o : OptionRow) (text : List ℕ) : Type 0 where

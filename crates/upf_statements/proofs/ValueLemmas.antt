@@ -1,9 +1,7 @@
 -- Voltages and values of supplies, taken from words that are such.
-use Rattle.std.proofs.Common.{◌≡◌, ℕ, ◌+◌, ◌/◌, ◌≤◌, true, false, Bool, List, [], ◌∷◌, bytes_eq, codes, cond, refl, sym, ap, ◌∙◌, subst, arith}
-use Rattle.std.proofs.lemmas.Bool.{false≢true, true≢false}
-use Rattle.std.specs.Cmp.Lexicographic.{bytes_decides}
+use Rattle.std.proofs.Common.{◌≡◌, ℕ, ◌+◌, ◌/◌, ◌≤◌, false, List, [], ◌∷◌, arith}
+use Rattle.std.proofs.lemmas.Bool.{true≢false}
 use Rattle.pw_defs.specs.declared.values.Value.{Value}
-use Rattle.pw_defs.specs.declared.values.Value.TheVariants.{Off, On}
 use Rattle.text_defs.specs.Volts.{IsVolts}
 use Rattle.upf_commands.proofs.OneVoltage.{one_volts}
 use Rattle.upf_commands.specs.Voltages.{IsVoltage, one, two, three, IsValue, off, on}

@@ -1,5 +1,5 @@
 -- The commands that are read and not passed over, and how scripts write them.
-use Rattle.std.specs.Prelude.{ℕ, List, [], ◌∷◌, codes}
+use Rattle.std.specs.Prelude.{ℕ, List, codes}
 use Rattle.upf_statements.specs.declared.command_names.CommandName.{CommandName}
 use Rattle.upf_statements.specs.declared.command_names.CommandName.TheVariants.{CreateSupplyPort, CreateSupplyNet, ConnectSupplyNet, CreatePowerSwitch, CreateSupplySet, AssociateSupplySet, ConnectSupplySet, AddPortState, AddSupplyState, CreatePst, AddPstState, CreatePowerStateGroup, AddPowerState, CreatePowerDomain, SetIsolation, SetLevelShifter, SetDesignAttributes, SetPortAttributes, LoadUpf, SetScope, BeginPowerModel, EndPowerModel, ApplyPowerModel}
 
@@ -28,8 +28,3 @@ command_text SetScope = codes "set_scope"
 command_text BeginPowerModel = codes "begin_power_model"
 command_text EndPowerModel = codes "end_power_model"
 command_text ApplyPowerModel = codes "apply_power_model"
-
--- all of them
-abbrev pub all_commands : List CommandName
-all_commands =
-    CreateSupplyPort ∷ CreateSupplyNet ∷ ConnectSupplyNet ∷ CreatePowerSwitch ∷ CreateSupplySet ∷ AssociateSupplySet ∷ ConnectSupplySet ∷ AddPortState ∷ AddSupplyState ∷ CreatePst ∷ AddPstState ∷ CreatePowerStateGroup ∷ AddPowerState ∷ CreatePowerDomain ∷ SetIsolation ∷ SetLevelShifter ∷ SetDesignAttributes ∷ SetPortAttributes ∷ LoadUpf ∷ SetScope ∷ BeginPowerModel ∷ EndPowerModel ∷ ApplyPowerModel ∷ []

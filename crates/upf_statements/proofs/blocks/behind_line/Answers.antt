@@ -1,4 +1,4 @@
-use Rattle.std.proofs.Common.{◌≡◌, ◌<◌, ℕ, None, Some, Option, length, sym, ◌∙◌, subst}
+use Rattle.std.proofs.Common.{ℕ, Option, sym, ◌∙◌, subst}
 use Rattle.upf_statements.specs.Blocks.{AreBlocksSoFar}
 use Rattle.upf_statements.proofs.BlockLemmas.{first_line, plain_line, inner_line, last_line}
 use Rattle.upf_statements.proofs.blocks.behind_line.Goals as goal

@@ -1,7 +1,7 @@
-use Rattle.std.proofs.Common.{◌≡◌, ℕ, ◌≤◌, List, [], ◌∷◌, drop, length, sym, ap, ◌∙◌, subst}
+use Rattle.std.proofs.Common.{◌≡◌, ℕ, ◌≤◌, List, ◌∷◌, drop, length, sym, ap, ◌∙◌, subst}
 use Rattle.tcl_words.specs.ListWords.{PartsInto}
 use Rattle.upf_commands.specs.Forms.{AreListOf, pair}
-use Rattle.upf_statements.proofs.SaidLemmas.{is_list, list_words, none_behind, two_there}
+use Rattle.upf_statements.proofs.SaidLemmas.{list_words, none_behind, two_there}
 use Rattle.upf_statements.proofs.lists.pair_of.Goals as goal
 
 pub first_two-requires : goal.first_two-requires

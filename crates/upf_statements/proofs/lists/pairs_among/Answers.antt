@@ -1,7 +1,6 @@
-use Rattle.std.proofs.Common.{◌≡◌, ◌<◌, ℕ, List, length, get_or, sym, ◌∙◌, subst, arith}
+use Rattle.std.proofs.Common.{◌<◌, length, sym, subst, arith}
 use Rattle.list_defs.specs.Members.{IsIn}
 use Rattle.upf_commands.specs.Forms.{HasForm, list, pair}
-use Rattle.upf_commands.specs.Values.{IsPair}
 use Rattle.upf_reader.proofs.ValueLemmas.{item_there}
 use Rattle.upf_statements.proofs.SaidLemmas.{IsPairOf}
 use Rattle.upf_statements.proofs.ZipLemmas.{one_done}

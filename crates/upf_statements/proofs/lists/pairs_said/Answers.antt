@@ -1,6 +1,5 @@
-use Rattle.std.proofs.Common.{List, ℕ, sym, subst}
+use Rattle.std.proofs.Common.{List, ℕ, subst}
 use Rattle.list_defs.specs.Members.{IsIn}
-use Rattle.upf_commands.specs.Forms.{HasForm, list, pair}
 use Rattle.upf_statements.proofs.SaidLemmas.{items_paired}
 use Rattle.upf_statements.proofs.lists.pairs_said.Goals as goal
 

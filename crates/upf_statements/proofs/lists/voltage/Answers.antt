@@ -1,4 +1,4 @@
-use Rattle.std.proofs.Common.{◌≡◌, ℕ, ◌+◌, ◌/◌, List, [], ◌∷◌, sym, ◌∙◌, ap, ap₂, subst}
+use Rattle.std.proofs.Common.{◌≡◌, ◌+◌, ◌/◌, [], ◌∷◌, sym, ◌∙◌, ap, ap₂, subst}
 use Rattle.text_defs.specs.Volts.{IsVolts}
 use Rattle.upf_commands.specs.Voltages.{IsVoltage}
 use Rattle.upf_reader.proofs.ListLemmas.{one_item, two_items, three_items}

@@ -1,4 +1,4 @@
-use Rattle.std.proofs.Common.{◌≡◌, ◌<◌, length, sym, subst, arith}
+use Rattle.std.proofs.Common.{◌<◌, length, sym, subst, arith}
 use Rattle.list_defs.specs.Members.{IsIn}
 use Rattle.upf_reader.proofs.ValueLemmas.{item_there}
 use Rattle.upf_reader.specs.Rows.{command_view}

@@ -1,7 +1,6 @@
-use Rattle.std.proofs.Common.{◌≡◌, ℕ, List, Option, Some, refl, sym, ap, ◌∙◌, subst}
+use Rattle.std.proofs.Common.{◌≡◌, List, Some, refl, sym, ap, ◌∙◌, subst}
 use Rattle.std.specs.List.{AllZip}
 use Rattle.pw_defs.specs.declared.script.Given.{Given}
-use Rattle.upf_commands.specs.CommandRows.{CommandRow}
 use Rattle.upf_commands.specs.CommandWords.{row_of}
 use Rattle.upf_reader.specs.Rows.{command_view}
 use Rattle.upf_statements.specs.Said.{IsClauseIn}

@@ -1,4 +1,4 @@
-use Rattle.std.proofs.Common.{◌≡◌, List, [], ◌∷◌, ◌++◌, Option, Some, None, map, option_map, append-nil, sym, subst}
+use Rattle.std.proofs.Common.{List, [], ◌∷◌, Option, Some, None, map, option_map, append-nil, sym, subst}
 use Rattle.std.proofs.lemmas.List.{map-append}
 use Rattle.upf_statements.specs.Said.{Begin}
 use Rattle.upf_statements.specs.Views.{option_view}

@@ -1,4 +1,4 @@
-use Rattle.std.proofs.Common.{◌≡◌, map, length}
+use Rattle.std.proofs.Common.{map, length}
 use Rattle.upf_statements.specs.Views.{option_view}
 use Rattle.upf_statements.proofs.StateLemmas.{AreReadSoFar}
 use Rattle.upf_statements.proofs.states.options_said.Given as goal

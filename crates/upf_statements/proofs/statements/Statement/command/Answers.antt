@@ -1,8 +1,8 @@
-use Rattle.std.proofs.Common.{◌≡◌, List, ℕ, find, sym, ap, ◌∙◌}
+use Rattle.std.proofs.Common.{◌≡◌, List, ℕ, find, ap, ◌∙◌}
 use Rattle.list_defs.specs.Members.{same_name}
 use Rattle.script_defs.specs.Statements.{Statement}
-use Rattle.upf_statements.specs.CommandNames.{all_commands, command_text}
-use Rattle.upf_statements.proofs.NamedCommands.{found_command}
+use Rattle.upf_statements.specs.CommandNames.{command_text}
+use Rattle.upf_statements.proofs.NamedCommands.{all_commands, found_command}
 use Rattle.upf_statements.proofs.statements.Statement.command.Goals as goal
 
 pub returns : goal.returns

@@ -1,7 +1,7 @@
 //! Commands of power intent (IEEE 1801-2015) read from command lines.
 //!
 //! One table has all commands with their options, and the same code reads the lines of all of them. It meets `IsCommand`
-//! and `HasCommandFault` of `upf_commands`.
+//! and `HasCommandFault` of `upf_commands`. The table stands open to those who take the values of options apart.
 #![tactic(auto)]
 
 mod apart;
@@ -17,3 +17,5 @@ mod values;
 mod words;
 
 pub use commands::read_command;
+pub use table::{Behind, CommandLine, ListShape, OptionLine, Shape, Texts, WordShape, command_of};
+pub use words::truth_of;

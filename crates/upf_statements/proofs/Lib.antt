@@ -1,0 +1,8 @@
+pub mod BlockLemmas
+pub mod NamedCommands
+pub mod SaidLemmas
+pub mod StateLemmas
+pub mod TableLemmas
+pub mod TakenLemmas
+pub mod ValueLemmas
+pub mod ZipLemmas

@@ -1,0 +1,5 @@
+pub mod Blocks
+pub mod CommandNames
+pub mod Said
+pub mod Taken
+pub mod Views

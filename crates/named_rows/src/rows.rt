@@ -1,5 +1,6 @@
 //! Rows beside the index of their names.
 ghost use Rattle.std.specs.Prelude.{◌≡◌, ◌<◌, ◌∷◌, ◌++◌, [], true, Some, None, length, map, slice_get, OnOk, OnErr};
+ghost use Rattle.std.specs.Borrow.{Lends, sem};
 ghost use Rattle.list_defs.specs.Members.{all_differ, place_of, same_name};
 ghost use Rattle.named_rows.specs.Rows.{names_in, rows_in, with_row};
 
@@ -31,6 +32,8 @@ impl<T> Model for NamedRows<T> {
 }
 
 impl<T> NamedRows<T> {
+    ghost use Rattle.named_rows.specs.contracts.rows.NamedRows.{the_row};
+
     /// No rows.
     pub fn new(alloc: Global) -> NamedRows<T>
         ensures { result ≡ [] }
@@ -70,6 +73,15 @@ impl<T> NamedRows<T> {
         ensures { slice_get (rows_in self.now) at ≡ Some result.now }
     {
         &self.rows[at as usize]
+    }
+
+    /// The row at a place, to be changed. Its name stays.
+    pub fn row_mut(&mut self, at: u32) -> &mut T
+        requires { at < length self.old }
+        ensures* writes_back { sem 𝓛 (Lends (the_row T.row) T.row self.entry result (with_row self.old at)) }
+        ensures row { slice_get (rows_in self.old) at ≡ Some result.now }
+    {
+        &mut self.rows[at as usize]
     }
 
     /// Puts another row in the place of one, under its name, and gives the one that was there.

@@ -1,1 +1,4 @@
 pub mod Handles
+pub mod Seen
+pub mod Ranges
+pub mod States

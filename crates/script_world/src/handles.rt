@@ -3,7 +3,7 @@ ghost use Rattle.std.specs.Prelude.{◌≡◌, ◌<◌, ◌+◌, false, true, co
 ghost use Rattle.std.specs.List.{after_last, before_last, list_any};
 ghost use Rattle.list_defs.specs.Members.{same_name};
 ghost use Rattle.script_defs.specs.LookUps.{handle_in, handle_named, is_dot};
-ghost use Rattle.script_world.specs.Handles.{handle_seen, parts_seen, IsLastDot};
+ghost use Rattle.script_world.specs.Handles.{handle_name_seen, parts_seen, IsLastDot};
 
 /// Which of the two sets of a domain it is.
 #[derive(Clone, Copy, Debug, PartialEq, Eq)]
@@ -26,7 +26,7 @@ fn is_default_isolation(word: &[u8]) -> bool
 
 /// The handle that a word is, if it is one.
 fn handle_named(word: &[u8]) -> Option<HandleName>
-    ensures { option_map handle_seen result ≡ handle_named word.now }
+    ensures { option_map handle_name_seen result ≡ handle_named word.now }
 {
     if is_primary(word) {
         return Some(HandleName::Primary);

@@ -13,7 +13,7 @@ returns g c =
     omega (arith, c.requires, c.self.invariant, count_of_view c.self.inside.names c.self.inside.rows.items c.args.self.now c.self.invariant c.self.view_is) in
     (
       (
-        refl,
+        refl {a = c.index_mut.result.ghost_name},
         λ w. sym (with_row-zip c.self.inside.names c.self.inside.rows.items c.args.at w)
             ∙ ap (λ (rows : List (List ℕ × g.row.T.Denot)). with_row rows c.args.at w) c.self.view_is
       ),

@@ -17,3 +17,7 @@ mod values;
 mod words;
 
 pub use commands::read_command;
+pub use table::{
+    Behind, CommandLine, ListShape, OptionLine, Shape, Texts, WordShape, command_of,
+};
+pub use words::truth_of;

@@ -6,11 +6,11 @@ ghost use Rattle.upf_commands.specs.CommandWords.{row_of, option_of};
 ghost use Rattle.upf_reader.specs.Rows.{command_view, option_view, rows_of};
 
 /// Texts that stand in the table.
-pub(crate) type Texts = &'static [&'static [u8]];
+pub type Texts = &'static [&'static [u8]];
 
 /// The form of a single word.
 #[derive(Clone, Copy)]
-pub(crate) enum WordShape {
+pub enum WordShape {
     Any,
     Simple,
     SetName,
@@ -22,7 +22,7 @@ pub(crate) enum WordShape {
 
 /// The form of a list's words.
 #[derive(Clone, Copy)]
-pub(crate) enum ListShape {
+pub enum ListShape {
     Names,
     Scope,
     Columns,
@@ -37,7 +37,7 @@ pub(crate) enum ListShape {
 
 /// The form of a value: a word, a list, or a list of pairs.
 #[derive(Clone, Copy)]
-pub(crate) enum Shape {
+pub enum Shape {
     Word(WordShape),
     List(ListShape),
     Pairs,
@@ -45,7 +45,7 @@ pub(crate) enum Shape {
 
 /// What stands behind an option.
 #[derive(Clone, Copy)]
-pub(crate) enum Behind {
+pub enum Behind {
     /// A value.
     Value,
     /// Nothing.
@@ -61,7 +61,7 @@ pub(crate) enum Behind {
 /// An option of a command: the word that gives it, the name under which it is kept, what stands behind it and the form of
 /// that, whether it may be given more than once, and whether it must be given.
 #[derive(Clone, Copy)]
-pub(crate) struct OptionLine {
+pub struct OptionLine {
     pub spelled: &'static [u8],
     pub kept: &'static [u8],
     pub behind: Behind,
@@ -73,7 +73,7 @@ pub(crate) struct OptionLine {
 /// A command: its name, the form of its own word if it has one, its options, and the groups of options of which it takes at
 /// most one. Of a command that is passed over only the name is looked at.
 #[derive(Clone, Copy)]
-pub(crate) struct CommandLine {
+pub struct CommandLine {
     pub name: &'static [u8],
     pub own: Option<WordShape>,
     pub options: &'static [OptionLine],
@@ -476,7 +476,7 @@ fn command_among(name: &[u8], rows: &'static [CommandLine]) -> Option<&'static C
 }
 
 /// The command of this name.
-pub(crate) fn command_of(name: &[u8]) -> Option<&'static CommandLine>
+pub fn command_of(name: &[u8]) -> Option<&'static CommandLine>
     ensures { option_map (λ c. command_view c.now) result ≡ row_of name.now }
 {
     for group in groups() {

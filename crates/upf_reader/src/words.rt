@@ -42,7 +42,7 @@ pub(crate) fn is_simple(word: &[u8]) -> bool
 }
 
 /// What a truth says, where the word is one.
-pub(crate) fn truth_of(word: &[u8]) -> Option<bool>
+pub fn truth_of(word: &[u8]) -> Option<bool>
     ensures { result ≡ truth_of word.now }
 {
     if word.eq_ignore_ascii_case(b"TRUE") {

@@ -1,16 +1,55 @@
 -- Rows of which one is changed, and what each row stands for.
-use Rattle.std.proofs.Common.{◌≡◌, ℕ, suc, zero, Bool, true, false, not, ◌&&◌, ◌||◌, List, [], ◌∷◌, set, Option, Some, None, option_map, option_and_then, slice_get, find, map, if◌then◌else◌, refl, sym, ap, subst, ◌∙◌}
+use Rattle.std.proofs.Common.{◌≡◌, ℕ, suc, zero, Bool, true, false, not, ◌&&◌, ◌||◌, List, [], ◌∷◌, ◌++◌, length, set, Option, Some, None, option_map, option_and_then, slice_get, find, map, if◌then◌else◌, refl, sym, ap, subst, ◌∙◌}
 use Rattle.std.proofs.lemmas.Bool.{and_parts, false≢true, true≢false}
+use Rattle.std.proofs.lemmas.List.{length-map, map-append}
+use Rattle.std.proofs.lemmas.List.Elements.{All-cons, All-head, All-tail}
 use Rattle.std.proofs.lemmas.Option.{slice_get-map}
-use Rattle.std.specs.List.{list_any}
+use Rattle.std.specs.List.{All, list_any}
 use Rattle.list_defs.specs.Members.{all_differ, place_of, same_name}
 use Rattle.list_defs.proofs.NameLemmas.{list_any-slice_get, same_name-equal, same_name-itself}
-use Rattle.named_rows.specs.Rows.{names_in, with_row}
+use Rattle.named_rows.specs.Rows.{names_in, rows_in, with_row}
+
+none_some : {X : Type 0} {x : X} → None ≡ Some x → ⊥
+none_some e = cc
 
 pub names_in-with_row : {X : Type 0} (rows : List (List ℕ × X)) (n : ℕ) (row : X) → names_in (with_row rows n row) ≡ names_in rows
 names_in-with_row [] n row = refl
 names_in-with_row (p ∷ rows) zero row = refl
 names_in-with_row (p ∷ rows) (suc n) row = ap (λ names. p.0 ∷ names) (names_in-with_row rows n row)
+
+-- a row with its name
+pub row_at : {X : Type 0} (rows : List (List ℕ × X)) (n : ℕ) (name : List ℕ) (row : X) → slice_get (names_in rows) n ≡ Some name → slice_get (rows_in rows) n ≡ Some row
+    → slice_get rows n ≡ Some (name, row)
+row_at [] n name row named there = absurd (none_some named)
+row_at (p ∷ rows) zero name row named there =
+    let first : p.0 ≡ name = cc in
+    let second : p.1 ≡ row = cc in
+    ap (λ own. Some (own, p.1)) first ∙ ap (λ own. Some (name, own)) second
+row_at (p ∷ rows) (suc n) name row named there = row_at rows n name row named there
+
+-- what holds of all rows, and of another one
+pub All-with_row : {X : Type 0} (P : List ℕ × X → Type 0) (rows : List (List ℕ × X)) (n : ℕ) (row : X) → ((name : List ℕ) → P (name, row)) → All P rows
+    → All P (with_row rows n row)
+All-with_row P [] n row own all = all
+All-with_row P (p ∷ rows) zero row own all = All-cons P (p.0, row) rows (own p.0) (All-tail P p rows all)
+All-with_row P (p ∷ rows) (suc n) row own all = All-cons P p (with_row rows n row) (All-head P p rows all) (All-with_row P rows n row own (All-tail P p rows all))
+
+-- what holds of all rows holds of each
+pub row_holds : {X : Type 0} (P : X → Type 0) (rows : List (List ℕ × X)) (n : ℕ) (row : X) → All (λ (p : List ℕ × X). P p.1) rows
+    → slice_get (rows_in rows) n ≡ Some row → P row
+row_holds P [] n row all there = absurd (none_some there)
+row_holds {X} P (p ∷ rows) zero row all there =
+    let here : p.1 ≡ row = cc in
+    subst P here (All-head (λ (q : List ℕ × X). P q.1) p rows all)
+row_holds {X} P (p ∷ rows) (suc n) row all there = row_holds P rows n row (All-tail (λ (q : List ℕ × X). P q.1) p rows all) there
+
+-- a row put in its own place
+pub with_row_same : {X : Type 0} (rows : List (List ℕ × X)) (n : ℕ) (row : X) → slice_get (rows_in rows) n ≡ Some row → with_row rows n row ≡ rows
+with_row_same [] n row there = refl
+with_row_same (p ∷ rows) zero row there =
+    let here : p.1 ≡ row = cc in
+    ap (λ own. (p.0, own) ∷ rows) (sym here)
+with_row_same (p ∷ rows) (suc n) row there = ap (λ more. p ∷ more) (with_row_same rows n row there)
 
 -- what the rows stand for
 pub map-with_row : {X Y : Type 0} (f : List ℕ × X → Y) (rows : List (List ℕ × X)) (n : ℕ) (row : X) (name : List ℕ) → slice_get (names_in rows) n ≡ Some name
@@ -49,6 +88,24 @@ other_name name own names has lacks = by (same_name name own) refl
         let P : List ℕ → Type 0 = λ n. list_any (same_name n) names ≡ true in
         absurd (true≢false (sym (subst P (same_name-equal name own e) has) ∙ lacks))
     by false e = e
+
+-- a name that no row has is found behind them
+place_of-last : (name : List ℕ) (names : List (List ℕ)) → place_of (same_name name) names ≡ None → place_of (same_name name) (names ++ name ∷ []) ≡ Some (length names)
+place_of-last name [] none = ap (λ b. if b then Some 0 else None) (same_name-itself name)
+place_of-last name (own ∷ names) none =
+    behind (same_name name own) (place_of (same_name name) names) (place_of (same_name name) (names ++ name ∷ [])) (place_of-last name names) none
+  where
+    behind : (b : Bool) (o p : Option ℕ) → (o ≡ None → p ≡ Some (length names)) → (if b then Some 0 else option_map suc o) ≡ None
+        → (if b then Some 0 else option_map suc p) ≡ Some (suc (length names))
+    behind true o p last e = absurd (none_some (sym e))
+    behind false None p last e = ap (option_map suc) (last refl)
+    behind false (Some n) p last e = absurd (none_some (sym e))
+
+pub place_of-more : {X : Type 0} (name : List ℕ) (rows : List (List ℕ × X)) (row : X) → place_of (same_name name) (names_in rows) ≡ None
+    → place_of (same_name name) (names_in (rows ++ (name, row) ∷ [])) ≡ Some (length rows)
+place_of-more {X} name rows row none =
+    ap (place_of (same_name name)) (map-append (λ (p : List ℕ × X). p.0) rows ((name, row) ∷ [])) ∙ place_of-last name (names_in rows) none
+    ∙ ap Some (length-map rows (λ (p : List ℕ × X). p.0))
 
 -- where no thing has a name, none is changed
 pub none_changed : {X : Type 0} (key : X → List ℕ) (change : X → X) (name : List ℕ) (xs : List X) → list_any (same_name name) (map key xs) ≡ false

@@ -1,2 +1,3 @@
 pub mod DotLemmas
 pub mod StateLemmas
+pub mod KeepLemmas

@@ -2,3 +2,4 @@ pub mod Handles
 pub mod Seen
 pub mod Ranges
 pub mod States
+pub mod Objects

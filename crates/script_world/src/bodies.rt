@@ -1,6 +1,6 @@
 //! What stands under a name. A supply is small, and all else stands behind a pointer.
 
-use crate::parts::{GivenClause, Handle, SupplyKey};
+use crate::parts::{GivenClause, Handle, Origin, SupplyKey};
 use crate::states::PowerStates;
 use named_rows::NamedRows;
 use pw_defs::{Bytes, Line, List, SupplyKind, Tool, Value};
@@ -62,4 +62,13 @@ pub enum Body {
     Group(Box<PowerStates>),
     Strategy(Box<StrategyBody>),
     PowerModel(Box<ModelBody>),
+}
+
+/// What stands behind the whole name of an object: the place of the scope where it was made, the line that made it, and what
+/// it is.
+#[derive(Drop)]
+pub struct ObjectRow {
+    pub scope: u32,
+    pub origin: Origin,
+    pub body: Body,
 }

@@ -34,6 +34,17 @@ All-with_row P [] n row own all = all
 All-with_row P (p ∷ rows) zero row own all = All-cons P (p.0, row) rows (own p.0) (All-tail P p rows all)
 All-with_row P (p ∷ rows) (suc n) row own all = All-cons P p (with_row rows n row) (All-head P p rows all) (All-with_row P rows n row own (All-tail P p rows all))
 
+-- the same, where the row that was there says something of its name
+pub All-other_row : {X : Type 0} (P : List ℕ × X → Type 0) (rows : List (List ℕ × X)) (n : ℕ) (old row : X) → slice_get (rows_in rows) n ≡ Some old
+    → ((name : List ℕ) → P (name, old) → P (name, row)) → All P rows → All P (with_row rows n row)
+All-other_row P [] n old row there own all = all
+All-other_row {X} P (p ∷ rows) zero old row there own all =
+    let here : p.1 ≡ old = cc in
+    let Q : X → Type 0 = λ r. P (p.0, r) in
+    All-cons P (p.0, row) rows (own p.0 (subst Q here (All-head P p rows all))) (All-tail P p rows all)
+All-other_row P (p ∷ rows) (suc n) old row there own all =
+    All-cons P p (with_row rows n row) (All-head P p rows all) (All-other_row P rows n old row there own (All-tail P p rows all))
+
 -- what holds of all rows holds of each
 pub row_holds : {X : Type 0} (P : X → Type 0) (rows : List (List ℕ × X)) (n : ℕ) (row : X) → All (λ (p : List ℕ × X). P p.1) rows
     → slice_get (rows_in rows) n ≡ Some row → P row
@@ -42,6 +53,15 @@ row_holds {X} P (p ∷ rows) zero row all there =
     let here : p.1 ≡ row = cc in
     subst P here (All-head (λ (q : List ℕ × X). P q.1) p rows all)
 row_holds {X} P (p ∷ rows) (suc n) row all there = row_holds P rows n row (All-tail (λ (q : List ℕ × X). P q.1) p rows all) there
+
+-- what is read of what a row stands for
+pub read_row : {X Y A : Type 0} (see : List ℕ × X → Y) (f : Y → A) (rows : List (List ℕ × X)) (n : ℕ) (row : X) (a : A) → ((name : List ℕ) → f (see (name, row)) ≡ a)
+    → slice_get (rows_in rows) n ≡ Some row → option_map f (slice_get (map see rows) n) ≡ Some a
+read_row see f [] n row a same there = absurd (none_some there)
+read_row see f (p ∷ rows) zero row a same there =
+    let here : p.1 ≡ row = cc in
+    ap (λ own. Some (f (see (p.0, own)))) here ∙ ap Some (same p.0)
+read_row see f (p ∷ rows) (suc n) row a same there = read_row see f rows n row a same there
 
 -- a row put in its own place
 pub with_row_same : {X : Type 0} (rows : List (List ℕ × X)) (n : ℕ) (row : X) → slice_get (rows_in rows) n ≡ Some row → with_row rows n row ≡ rows

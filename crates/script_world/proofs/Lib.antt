@@ -1,3 +1,4 @@
 pub mod DotLemmas
 pub mod StateLemmas
 pub mod KeepLemmas
+pub mod ObjectLemmas

@@ -37,7 +37,7 @@ pub state_found : (places : List (List ℕ)) (name : List ℕ) (rows : List (Lis
 state_found places name rows place e =
     ap (option_and_then (slice_get (map (state_seen places) rows))) (e ∙ place_seen places name rows) ∙ find-place_of (is_named name) (map (state_seen places) rows)
 
-is_some-find : {X : Type 0} (test : X → Bool) (xs : List X) → is_some (find test xs) ≡ list_any test xs
+pub is_some-find : {X : Type 0} (test : X → Bool) (xs : List X) → is_some (find test xs) ≡ list_any test xs
 is_some-find test [] = refl
 is_some-find test (x ∷ xs) = by (test x) (is_some-find test xs)
   where

@@ -6,7 +6,9 @@ use Rattle.design_defs.specs.Names.{joined}
 use Rattle.named_rows.specs.Rows.{names_in}
 use Rattle.script_defs.specs.World.{Object, World}
 use Rattle.script_defs.specs.LookUps.{whole_name}
+use Rattle.script_world.specs.declared.bodies.Body.{Body}
 use Rattle.script_world.specs.declared.bodies.ObjectRow.{ObjectRow}
+use Rattle.script_world.specs.declared.parts.Origin.{Origin}
 use Rattle.script_world.specs.Ranges.{IsBody, IsOrigin}
 use Rattle.script_world.specs.Seen.{Known, body_seen, name_at, origin_seen}
 
@@ -49,6 +51,16 @@ object_seen k p =
     let scope = name_at k.places p.1.scope in
     record { scope = scope; name = simple_name scope p.0; origin = origin_seen k.places p.1.origin; body = body_seen k p.1.body }
 
+-- the object that a body makes under a whole name in a scope
+abbrev pub made_object : Places → ℕ → List ℕ → Origin → Body → Object
+made_object p scope whole origin body =
+    let path = name_at p.places scope in
+    record { scope = path; name = simple_name path whole; origin = origin_seen p.places origin; body = body_seen (known_in p) body }
+
+-- a whole name begins with the path of its scope
+abbrev pub IsNamed : List ℕ → List ℕ → Type 0
+IsNamed scope whole = joined scope (simple_name scope whole) ≡ whole
+
 abbrev pub known_by : List (List ℕ) → List (List ℕ × ObjectRow) → Known
 known_by places rows = record { places = places; objects = names_in rows }
 
@@ -58,7 +70,7 @@ objects_seen places rows = record { places = places; objects = map (object_seen 
 -- the numbers of a row are those of places and objects, and its whole name begins with the path of its scope
 pub record IsRow (k : Known) (p : List ℕ × ObjectRow) : Type 0 where
   pub scope : p.1.scope < length k.places
-  pub named : joined (name_at k.places p.1.scope) (simple_name (name_at k.places p.1.scope) p.0) ≡ p.0
+  pub named : IsNamed (name_at k.places p.1.scope) p.0
   pub origin : IsOrigin k.places p.1.origin
   pub body : IsBody k p.1.body
 

@@ -3,10 +3,12 @@
 
 mod bodies;
 mod handles;
+mod objects;
 mod parts;
 mod states;
 
 pub use bodies::{Body, DomainBody, ModelBody, SetBody, StrategyBody, SwitchBody, TableBody};
 pub use handles::{HandleName, handle_in};
+pub use objects::Objects;
 pub use parts::{Expression, GivenClause, Handle, Origin, SupplyKey};
 pub use states::{PowerStates, StateRow};

@@ -1,11 +1,12 @@
 -- What the objects of a world are by their rows.
 use Rattle.std.proofs.Common.{◌≡◌, ℕ, ◌<◌, Bool, true, false, List, [], ◌∷◌, ◌++◌, Option, Some, None, is_some, option_map, option_and_then, slice_get, set, length, map, if◌then◌else◌, refl, sym, ap, subst, ◌∙◌}
 use Rattle.std.specs.List.{All, find}
+use Rattle.std.specs.Option.{IfSome}
 use Rattle.std.proofs.lemmas.List.Elements.{All-head, All-push, All-tail, All-weaker}
 use Rattle.std.proofs.lemmas.List.{length-map, map-append}
 use Rattle.std.proofs.lemmas.Option.{get_or_from_slice_get, slice_get-map, slice_get_within}
 use Rattle.list_defs.specs.Members.{all_differ, place_of, same_name}
-use Rattle.list_defs.proofs.NameLemmas.{is_some-place_of, place_of-map}
+use Rattle.list_defs.proofs.NameLemmas.{is_some-place_of, place_of-map, place_of-within, slice_get-place_of}
 use Rattle.design_defs.specs.Names.{joined}
 use Rattle.named_rows.specs.Rows.{names_in, rows_in as own_rows, with_row}
 use Rattle.named_rows.proofs.PlaceLemmas.{All-other_row, changed_at, find-place_of, map-with_row, names_in-with_row, read_row, row_at, row_holds}
@@ -14,7 +15,7 @@ use Rattle.script_defs.specs.LookUps.{whole_name}
 use Rattle.script_defs.specs.SupplySteps.{with_body}
 use Rattle.script_world.specs.declared.bodies.Body.{Body}
 use Rattle.script_world.specs.declared.bodies.ObjectRow.{ObjectRow}
-use Rattle.script_world.specs.Objects.{AreRows, Extends, IsNamed, IsRow, Places, is_named, known_by, known_in, object_seen, objects_seen, world_of}
+use Rattle.script_world.specs.Objects.{AreRows, Extends, IsNamed, IsRow, Places, is_named, known_by, known_in, named_at, object_seen, objects_seen, world_of}
 use Rattle.script_world.specs.Ranges.{IsBody, IsOrigin}
 use Rattle.script_world.specs.Seen.{Known, body_seen, name_at, origin_seen}
 use Rattle.script_world.proofs.KeepLemmas.{Keeps, keeps_more, keeps_same, objects_kept, rows_in}
@@ -82,6 +83,18 @@ module _ (places : List (List ℕ)) (rows : List (List ℕ × ObjectRow)) (v : P
   scope_fits at row there =
       row_holds (λ (r : ObjectRow). r.scope < length places) rows at row
       (All-weaker (IsRow known) (λ (p : List ℕ × ObjectRow). p.1.scope < length places) (λ p fits. fits.scope) rows all) there
+
+-- what is found
+pub found_within : (objects : List Object) (name : List ℕ) (place : Option ℕ) → place ≡ place_of (is_named name) objects → IfSome place (λ at. at < length objects)
+found_within objects name None e = tt
+found_within objects name (Some at) e = place_of-within (is_named name) objects at (sym e)
+
+pub found_named : (objects : List Object) (name : List ℕ) (place : Option ℕ) → place ≡ place_of (is_named name) objects
+    → IfSome place (λ at. named_at objects at ≡ Some name)
+found_named objects name None e = tt
+found_named objects name (Some at) e =
+    sym (slice_get-map whole_name objects at)
+    ∙ slice_get-place_of name (map whole_name objects) at (place_of-map whole_name (same_name name) objects ∙ sym e)
 
 -- more places
 pub objects_placed : (places more : List (List ℕ)) (rows : List (List ℕ × ObjectRow)) (v : Places) → AreRows places rows → objects_seen places rows ≡ v

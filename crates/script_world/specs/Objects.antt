@@ -1,5 +1,5 @@
 -- The objects of a world, and what the rows of objects stand for.
-use Rattle.std.specs.Prelude.{◌≡◌, ℕ, ◌+◌, ◌<◌, Bool, List, [], ◌∷◌, ◌++◌, map, length, drop}
+use Rattle.std.specs.Prelude.{◌≡◌, ℕ, ◌+◌, ◌<◌, Bool, List, [], ◌∷◌, ◌++◌, map, length, drop, slice_get, Option, option_map}
 use Rattle.std.specs.List.{All}
 use Rattle.list_defs.specs.Members.{same_name}
 use Rattle.design_defs.specs.Names.{joined}
@@ -39,6 +39,10 @@ known_in p = record { places = p.places; objects = map whole_name p.objects }
 
 abbrev pub is_named : List ℕ → Object → Bool
 is_named name o = same_name name (whole_name o)
+
+-- the whole name of an object by its number
+abbrev pub named_at : List Object → ℕ → Option (List ℕ)
+named_at objects at = option_map whole_name (slice_get objects at)
 
 -- the simple name in a whole one: what stands behind the path of the scope
 abbrev pub simple_name : List ℕ → List ℕ → List ℕ

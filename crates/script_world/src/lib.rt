@@ -3,6 +3,7 @@
 
 mod bodies;
 mod handles;
+mod lookups;
 mod objects;
 mod parts;
 mod states;

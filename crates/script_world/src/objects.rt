@@ -1,9 +1,9 @@
 //! The objects of a world, each found by its whole name.
-ghost use Rattle.std.specs.Prelude.{◌≡◌, ◌<◌, ◌++◌, ◌∷◌, [], ℕ, List, true, false, None, Some, length, map, option_and_then, option_map, slice_get, IfOk, OnErr};
+ghost use Rattle.std.specs.Prelude.{◌≡◌, ◌<◌, ◌++◌, ◌∷◌, [], ℕ, List, true, false, None, Some, length, map, option_and_then, option_map, slice_get, IfOk, IfSome, OnErr};
 ghost use Rattle.list_defs.specs.Members.{all_differ, place_of, same_name};
 ghost use Rattle.script_defs.specs.LookUps.{is_taken, object_at, whole_name};
 ghost use Rattle.script_defs.specs.SupplySteps.{with_body};
-ghost use Rattle.script_world.specs.Objects.{Extends, IsNamed, is_named, known_in, made_object, world_of};
+ghost use Rattle.script_world.specs.Objects.{Extends, IsNamed, is_named, known_in, made_object, named_at, world_of};
 ghost use Rattle.script_world.specs.Ranges.{IsBody, IsOrigin};
 ghost use Rattle.script_world.specs.Seen.{body_seen, name_at, origin_seen};
 
@@ -20,8 +20,8 @@ use std::mem;
 /// whole name. An error leaves all as it was.
 #[derive(Drop)]
 pub struct Objects {
-    places: NameIndex,
-    rows: NamedRows<ObjectRow>,
+    pub(crate) places: NameIndex,
+    pub(crate) rows: NamedRows<ObjectRow>,
 }
 
 impl Model for Objects {
@@ -86,6 +86,8 @@ impl Objects {
     pub fn find(&self, name: &[u8]) -> Option<u32>
         ensures place { result ≡ place_of (is_named name.now) self.now.objects }
         ensures object { option_and_then (slice_get self.now.objects) result ≡ object_at (world_of self.now.objects) name.now }
+        ensures within { IfSome result (λ at. at < length self.now.objects) }
+        ensures named { IfSome result (λ at. named_at self.now.objects at ≡ Some name.now) }
     {
         self.rows.find(name)
     }
@@ -100,7 +102,7 @@ impl Objects {
     /// The whole name of an object by its number, which is one of those that there are.
     pub fn whole_name(&self, at: u32) -> &[u8]
         requires { at < length self.now.objects }
-        ensures { option_map whole_name (slice_get self.now.objects at) ≡ Some result.now }
+        ensures { named_at self.now.objects at ≡ Some result.now }
     {
         self.rows.name(at)
     }
@@ -168,7 +170,7 @@ impl Objects {
         requires body { IsBody (known_in self.old) body.old }
         ensures body { option_map (λ o. o.body) (slice_get self.old.objects at) ≡ Some (body_seen (known_in self.old) body.new) }
         ensures sound { IsBody (known_in self.old) body.new }
-        ensures objects { (name : List ℕ) → option_map whole_name (slice_get self.old.objects at) ≡ Some name → world_of self.new.objects ≡ with_body (world_of self.old.objects) name (body_seen (known_in self.old) body.old) }
+        ensures objects { (name : List ℕ) → named_at self.old.objects at ≡ Some name → world_of self.new.objects ≡ with_body (world_of self.old.objects) name (body_seen (known_in self.old) body.old) }
         ensures known { known_in self.new ≡ known_in self.old }
     {
         let _differ = self.rows.len();

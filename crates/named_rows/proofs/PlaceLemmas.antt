@@ -80,6 +80,15 @@ map-with_row f (p ∷ rows) zero row name e =
     ap (λ own. f (own, row) ∷ map f rows) same
 map-with_row f (p ∷ rows) (suc n) row name e = ap (λ ys. f p ∷ ys) (map-with_row f rows n row name e)
 
+-- another row that stands for the same
+pub map-same_row : {X Y : Type 0} (see : List ℕ × X → Y) (rows : List (List ℕ × X)) (n : ℕ) (old row : X) → slice_get (rows_in rows) n ≡ Some old
+    → ((name : List ℕ) → see (name, row) ≡ see (name, old)) → map see (with_row rows n row) ≡ map see rows
+map-same_row see [] n old row there same = refl
+map-same_row see (p ∷ rows) zero old row there same =
+    let here : p.1 ≡ old = cc in
+    ap (λ y. y ∷ map see rows) (same p.0 ∙ ap (λ own. see (p.0, own)) (sym here))
+map-same_row see (p ∷ rows) (suc n) old row there same = ap (λ ys. see p ∷ ys) (map-same_row see rows n old row there same)
+
 -- the thing at the first place that passes a test is the first one
 pub find-place_of : {X : Type 0} (test : X → Bool) (xs : List X) → option_and_then (slice_get xs) (place_of test xs) ≡ find test xs
 find-place_of test [] = refl

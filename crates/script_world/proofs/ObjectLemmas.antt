@@ -5,25 +5,40 @@ use Rattle.std.specs.Option.{IfSome}
 use Rattle.std.proofs.lemmas.List.Elements.{All-head, All-push, All-tail, All-weaker}
 use Rattle.std.proofs.lemmas.List.{length-map, map-append}
 use Rattle.std.proofs.lemmas.Option.{get_or_from_slice_get, slice_get-map, slice_get_within}
+use Rattle.std.proofs.lemmas.Simd.{map-map}
 use Rattle.list_defs.specs.Members.{all_differ, place_of, same_name}
-use Rattle.list_defs.proofs.NameLemmas.{is_some-place_of, place_of-map, place_of-within, slice_get-place_of}
+use Rattle.list_defs.proofs.NameLemmas.{is_some-place_of, place_of-map, place_of-own, place_of-within, slice_get-place_of}
 use Rattle.design_defs.specs.Names.{joined}
 use Rattle.named_rows.specs.Rows.{names_in, rows_in as own_rows, with_row}
-use Rattle.named_rows.proofs.PlaceLemmas.{All-other_row, changed_at, find-place_of, map-with_row, names_in-with_row, read_row, row_at, row_holds}
-use Rattle.script_defs.specs.World.{Object, World}
-use Rattle.script_defs.specs.LookUps.{whole_name}
-use Rattle.script_defs.specs.SupplySteps.{with_body}
+use Rattle.named_rows.proofs.PlaceLemmas.{All-other_row, changed_at, find-place_of, map-same_row, map-with_row, names_in-with_row, read_row, row_at, row_holds}
+use Rattle.script_defs.specs.StateSteps.{rows_in as made_rows}
+use Rattle.script_defs.specs.World.{Body as MadeBody, Object, Row, World}
+use Rattle.script_defs.specs.LookUps.{body_named, whole_name}
+use Rattle.script_defs.specs.SupplySteps.{after_body, with_body}
 use Rattle.script_world.specs.declared.bodies.Body.{Body}
+use Rattle.script_world.specs.declared.bodies.Body.TheVariants.{Supply, Set, Switch, Domain, Table, Group, Strategy, PowerModel}
 use Rattle.script_world.specs.declared.bodies.ObjectRow.{ObjectRow}
+use Rattle.script_world.specs.Changes.{body_at, table_rows}
 use Rattle.script_world.specs.Objects.{AreRows, Extends, IsNamed, IsRow, Places, is_named, known_by, known_in, named_at, object_seen, objects_seen, world_of}
 use Rattle.script_world.specs.Ranges.{IsBody, IsOrigin}
-use Rattle.script_world.specs.Seen.{Known, body_seen, name_at, origin_seen}
+use Rattle.script_world.specs.Seen.{Known, body_seen, name_at, origin_seen, row_seen}
 use Rattle.script_world.proofs.KeepLemmas.{Keeps, keeps_more, keeps_same, objects_kept, rows_in}
 use Rattle.script_world.proofs.StateLemmas.{is_some-find}
 
 -- what holds of all holds of each
 All-at : {X : Type 0} (P : X → Type 0) (xs : List X) (n : ℕ) (x : X) → All P xs → slice_get xs n ≡ Some x → P x
 All-at P xs n x all there = subst P (get_or_from_slice_get xs n x x there) (all n x (slice_get_within xs n x there))
+
+-- the names of the rows of a table
+pub row_names : (k : Known) (b : Body) → map (λ (r : Row). r.name) (made_rows (Some (body_seen k b))) ≡ names_in (table_rows b)
+row_names k (Supply kind) = refl
+row_names k (Set b) = refl
+row_names k (Switch b) = refl
+row_names k (Domain b) = refl
+row_names k (Table b) = map-map (λ (r : Row). r.name) row_seen b.value.rows
+row_names k (Group b) = refl
+row_names k (Strategy b) = refl
+row_names k (PowerModel b) = refl
 
 -- the whole names of objects are those of their rows
 names_seen : (k : Known) (rows : List (List ℕ × ObjectRow)) → All (IsRow k) rows → map whole_name (map (object_seen k) rows) ≡ names_in rows
@@ -73,6 +88,11 @@ module _ (places : List (List ℕ)) (rows : List (List ℕ × ObjectRow)) (v : P
   body_fits at row there =
       row_holds (λ (r : ObjectRow). IsBody known r.body) rows at row
       (All-weaker (IsRow known) (λ (p : List ℕ × ObjectRow). IsBody known p.1.body) (λ p fits. fits.body) rows all) there
+
+  pub body_fits_known : (at : ℕ) (row : ObjectRow) → slice_get (own_rows rows) at ≡ Some row → IsBody (known_in v) row.body
+  body_fits_known at row there =
+      let P : Known → Type 0 = λ k. IsBody k row.body in
+      subst P (sym known_is) (body_fits at row there)
 
   pub origin_fits : (at : ℕ) (row : ObjectRow) → slice_get (own_rows rows) at ≡ Some row → IsOrigin places row.origin
   origin_fits at row there =
@@ -211,3 +231,40 @@ module _ (places : List (List ℕ)) (rows : List (List ℕ × ObjectRow)) (v : P
       row_named n own was named =
           let same = (row_at rows n own row named was) in
           (All-at (IsRow known_before) rows n (own, row) all same).named
+
+  pub body_was : body_at v.objects at ≡ Some (body_seen (known_in v) row.body)
+  body_was =
+      read_object places rows v all view (λ (o : Object). o.body) at row (body_seen (known_in v) row.body)
+      (λ name. ap (λ (k : Known). body_seen k row.body) (sym (known_is places rows v all view))) there
+
+  body_of_name : (name : List ℕ) → all_differ same_name (names_in rows) ≡ true → named_at v.objects at ≡ Some name
+      → body_named (world_of v.objects) name ≡ Some (body_seen (known_in v) row.body)
+  body_of_name name differ named =
+      let place : place_of (is_named name) v.objects ≡ Some at =
+      sym (places_found places rows v all view name) ∙ place_of-own name (names_in rows) at differ (name_of_row places rows v all view at name named) in
+      let found : find (is_named name) v.objects ≡ slice_get v.objects at =
+      sym (find-place_of (is_named name) v.objects) ∙ ap (option_and_then (slice_get v.objects)) place in
+      ap (λ (o : Option Object). option_map (λ (x : Object). x.body) o) found ∙ body_was
+
+  -- the world with what a step makes of the body
+  pub world_other : (name : List ℕ) → all_differ same_name (names_in rows) ≡ true → named_at v.objects at ≡ Some name
+      → (step : Option MadeBody → Option MadeBody) → step (Some (body_seen (known_in v) row.body)) ≡ Some (body_seen (known_in v) body)
+      → world_of (objects_seen places other_rows).objects ≡ after_body (world_of v.objects) name (step (body_named (world_of v.objects) name))
+  world_other name differ named step makes =
+      let w : World = world_of v.objects in
+      ap world_of (objects_other name differ named)
+      ∙ sym (ap (λ (b : Option MadeBody). after_body w name (step b)) (body_of_name name differ named) ∙ ap (after_body w name) makes)
+
+  -- a body that says the same
+  pub objects_same : body_seen (known_in v) body ≡ body_seen (known_in v) row.body → objects_seen places other_rows ≡ v
+  objects_same same =
+      let F : List Object → Places = λ os. record { places = places; objects = os } in
+      let G : List ℕ → MadeBody → Object = λ name b. record (object_seen known_before (name, row)) { body = b } in
+      let known = known_is places rows v all view in
+      let own : body_seen known_before body ≡ body_seen known_before row.body =
+      ap (λ (k : Known). body_seen k body) (sym known) ∙ same ∙ ap (λ (k : Known). body_seen k row.body) known in
+      ap F (
+      ap (λ (k : Known). map (object_seen k) other_rows) known_other
+      ∙ map-same_row (object_seen known_before) rows at row other there (λ name. ap (G name) own)
+      )
+      ∙ view

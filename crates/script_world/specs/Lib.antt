@@ -3,3 +3,4 @@ pub mod Seen
 pub mod Ranges
 pub mod States
 pub mod Objects
+pub mod Changes

@@ -2,6 +2,7 @@
 #![tactic(auto)]
 
 mod bodies;
+mod changes;
 mod handles;
 mod lookups;
 mod objects;

@@ -84,6 +84,17 @@ module _ (places : List (List ℕ)) (rows : List (List ℕ × ObjectRow)) (v : P
   pub name_of_row : (at : ℕ) (name : List ℕ) → option_map whole_name (slice_get v.objects at) ≡ Some name → slice_get (names_in rows) at ≡ Some name
   name_of_row at name there = ap (λ (names : List (List ℕ)). slice_get names at) (sym names_are) ∙ slice_get-map whole_name v.objects at ∙ there
 
+  -- a row with its whole name
+  pub row_fits_there : (at : ℕ) (name : List ℕ) (row : ObjectRow) → slice_get (names_in rows) at ≡ Some name → slice_get (own_rows rows) at ≡ Some row
+      → IsRow known (name, row)
+  row_fits_there at name row named there = All-at (IsRow known) rows at (name, row) all (row_at rows at name row named there)
+
+  pub object_there : (at : ℕ) (name : List ℕ) (row : ObjectRow) → slice_get (names_in rows) at ≡ Some name → slice_get (own_rows rows) at ≡ Some row
+      → slice_get v.objects at ≡ Some (object_seen known (name, row))
+  object_there at name row named there =
+      ap (λ (os : List Object). slice_get os at) (sym objects_are) ∙ slice_get-map (object_seen known) rows at
+      ∙ ap (option_map (object_seen known)) (row_at rows at name row named there)
+
   pub body_fits : (at : ℕ) (row : ObjectRow) → slice_get (own_rows rows) at ≡ Some row → IsBody known row.body
   body_fits at row there =
       row_holds (λ (r : ObjectRow). IsBody known r.body) rows at row
@@ -215,22 +226,14 @@ module _ (places : List (List ℕ)) (rows : List (List ℕ × ObjectRow)) (v : P
       let now = object_seen known_before (name, row) in
       let change : Object → Object = λ o. record o { body = body_seen known_before body } in
       let objects = objects_are places rows v all view in
-      let here : slice_get v.objects at ≡ Some now =
-      ap (λ (os : List Object). slice_get os at) (sym objects) ∙ slice_get-map (object_seen known_before) rows at
-      ∙ ap (option_map (object_seen known_before)) (row_at rows at name row name_there there) in
-      let own : whole_name now ≡ name = (row_named at name there name_there) in
+      let here : slice_get v.objects at ≡ Some now = object_there places rows v all view at name row name_there there in
+      let own : whole_name now ≡ name = (row_fits_there places rows v all view at name row name_there there).named in
       ap (λ (k : Known). map (object_seen k) other_rows) known_other
       ∙ map-with_row (object_seen known_before) rows at other name name_there
       ∙ ap (λ (os : List Object). set os at (change now)) objects
       ∙ changed_at whole_name change name v.objects at now (ap (all_differ same_name) (names_are places rows v all view) ∙ differ) here own
       ∙ ap (λ (k : Known). map (λ o. if same_name name (whole_name o) then record o { body = body_seen k body } else o) v.objects)
       (sym (known_is places rows v all view))
-    where
-      row_named : (n : ℕ) (own : List ℕ) → slice_get (own_rows rows) n ≡ Some row → slice_get (names_in rows) n ≡ Some own
-          → whole_name (object_seen known_before (own, row)) ≡ own
-      row_named n own was named =
-          let same = (row_at rows n own row named was) in
-          (All-at (IsRow known_before) rows n (own, row) all same).named
 
   pub body_was : body_at v.objects at ≡ Some (body_seen (known_in v) row.body)
   body_was =

@@ -4,6 +4,7 @@ use crate::parts::{GivenClause, Handle, Origin, SupplyKey};
 use crate::states::PowerStates;
 use named_rows::NamedRows;
 use pw_defs::{Bytes, Line, List, SupplyKind, Tool, Value};
+use std::mem::size_of;
 
 /// A supply set: its options and its power states.
 #[derive(Drop)]
@@ -72,3 +73,6 @@ pub struct ObjectRow {
     pub origin: Origin,
     pub body: Body,
 }
+
+// A million of them fit.
+const _: () = prove!(size_of::<ObjectRow>() <= 32);

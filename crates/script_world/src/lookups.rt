@@ -1,6 +1,7 @@
 //! What a name stands for: a body, the set of a handle, a set.
-ghost use Rattle.std.specs.Prelude.{◌≡◌, ◌<◌, Some, length, option_and_then, option_map, IfSome};
-ghost use Rattle.script_defs.specs.LookUps.{body_named, handle_at, handle_in, handle_of, is_set, set_at};
+ghost use Rattle.std.specs.Prelude.{◌≡◌, ◌<◌, Some, false, length, option_and_then, option_map, IfSome, MatchOption};
+ghost use Rattle.script_defs.specs.LookUps.{body_named, handle_at, handle_in, handle_of, is_set, is_taken, set_at};
+ghost use Rattle.script_defs.specs.PowerStateSteps.{stateful};
 ghost use Rattle.script_world.specs.Handles.{handle_name_seen};
 ghost use Rattle.script_world.specs.Objects.{known_in, named_at, world_of};
 ghost use Rattle.script_world.specs.Ranges.{IsBody, IsHandle};
@@ -73,5 +74,16 @@ impl Objects {
             }
         }
         self.handle_set(name)
+    }
+
+    /// The number of the object whose states a name stands for: those of a handle are its set's.
+    pub fn stateful(&self, name: &[u8]) -> Option<u32>
+        ensures object { MatchOption result (is_taken (world_of self.now.objects) (stateful (world_of self.now.objects) name.now) ≡ false) (λ at. named_at self.now.objects at ≡ Some (stateful (world_of self.now.objects) name.now)) }
+        ensures within { IfSome result (λ at. at < length self.now.objects) }
+    {
+        match self.set_at(name) {
+            Some(at) => Some(at),
+            None => self.find(name),
+        }
     }
 }

@@ -3,7 +3,7 @@ ghost use Rattle.std.specs.Prelude.{◌≡◌, ◌<◌, ◌++◌, ◌∷◌, [],
 ghost use Rattle.list_defs.specs.Members.{all_differ, place_of, same_name};
 ghost use Rattle.script_defs.specs.LookUps.{is_taken, object_at, whole_name};
 ghost use Rattle.script_defs.specs.SupplySteps.{with_body};
-ghost use Rattle.script_world.specs.Objects.{Extends, IsNamed, is_named, known_in, made_object, named_at, world_of};
+ghost use Rattle.script_world.specs.Objects.{Extends, IsNamed, is_named, known_in, made_object, named_at, simple_name, world_of};
 ghost use Rattle.script_world.specs.Ranges.{IsBody, IsOrigin};
 ghost use Rattle.script_world.specs.Seen.{body_seen, name_at, origin_seen};
 
@@ -36,6 +36,17 @@ impl Model for Objects {
     ghost view = { λ o. objects_seen o.places o.rows };
 
     ghost invariant = { λ o. AreRows o.places o.rows };
+}
+
+/// What stands behind the path of a scope in a whole name.
+fn behind<'a>(scope: &[u8], whole: &'a [u8]) -> &'a [u8]
+    requires { IsNamed scope.now whole.now }
+    ensures { result.now ≡ simple_name scope.now whole.now }
+{
+    match scope {
+        [] => whole,
+        _ => &whole[scope.len() + 1..],
+    }
 }
 
 /// The number of a name, which is added where it isn't there yet.
@@ -105,6 +116,16 @@ impl Objects {
         ensures { named_at self.now.objects at ≡ Some result.now }
     {
         self.rows.name(at)
+    }
+
+    /// The simple name of an object, which is what stands behind the path of its scope.
+    pub fn name(&self, at: u32) -> &[u8]
+        requires { at < length self.now.objects }
+        ensures { option_map (λ o. o.name) (slice_get self.now.objects at) ≡ Some result.now }
+    {
+        let whole = self.rows.name(at);
+        let scope = self.places.name(self.rows.row(at).scope);
+        behind(scope, whole)
     }
 
     /// The place of the scope where an object was made.

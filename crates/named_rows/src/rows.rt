@@ -8,7 +8,6 @@ use name_index::NameIndex;
 use plain_lists::Memory;
 use std::alloc::Global;
 use std::marker::Model;
-use std::mem;
 
 /// At most 4,294,967,295 rows, each under a name that no other has.
 #[derive(Drop)]
@@ -82,15 +81,6 @@ impl<T> NamedRows<T> {
         ensures row { slice_get (rows_in self.old) at ≡ Some result.now }
     {
         &mut self.rows[at as usize]
-    }
-
-    /// Puts another row in the place of one, under its name, and gives the one that was there.
-    pub fn replace(&mut self, at: u32, row: T) -> T
-        requires { at < length self.old }
-        ensures row { slice_get (rows_in self.old) at ≡ Some result }
-        ensures rows { self.new ≡ with_row self.old at row }
-    {
-        mem::replace(&mut self.rows[at as usize], row)
     }
 }
 

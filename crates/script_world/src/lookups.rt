@@ -1,16 +1,18 @@
 //! What a name stands for: a body, the set of a handle, a set.
-ghost use Rattle.std.specs.Prelude.{◌≡◌, ◌<◌, Some, false, length, option_and_then, option_map, IfSome, MatchOption};
+ghost use Rattle.std.specs.Prelude.{◌≡◌, ◌<◌, Some, false, is_some, length, option_and_then, option_map, IfSome, MatchOption};
 ghost use Rattle.script_defs.specs.LookUps.{body_named, handle_at, handle_in, handle_of, is_set, is_taken, set_at};
-ghost use Rattle.script_defs.specs.PowerStateSteps.{stateful};
+ghost use Rattle.script_defs.specs.PowerStateSteps.{stateful, states_of};
+ghost use Rattle.script_world.specs.Changes.{body_at, has_states};
 ghost use Rattle.script_world.specs.Handles.{handle_name_seen};
 ghost use Rattle.script_world.specs.Objects.{known_in, named_at, world_of};
-ghost use Rattle.script_world.specs.Ranges.{IsBody, IsHandle};
-ghost use Rattle.script_world.specs.Seen.{Known, body_seen, handle_seen};
+ghost use Rattle.script_world.specs.Ranges.{AreStates, IsBody, IsHandle};
+ghost use Rattle.script_world.specs.Seen.{Known, body_seen, handle_seen, states_seen};
 
 use crate::bodies::Body;
 use crate::handles::{HandleName, handle_in};
 use crate::objects::Objects;
 use crate::parts::Handle;
+use crate::states::PowerStates;
 
 fn is_set(body: &Body) -> bool
     ensures { (k : Known) → result ≡ is_set (Some (body_seen k body.now)) }
@@ -31,6 +33,20 @@ fn handle_of(body: &Body, handle: HandleName) -> Option<Handle>
             HandleName::Primary => domain.primary,
             HandleName::DefaultIsolation => domain.isolation,
         },
+        _ => None,
+    }
+}
+
+/// The power states of a body, where it can have some.
+fn states_of(body: &Body) -> Option<&PowerStates>
+    ensures none { (k : Known) → is_some result ≡ has_states (Some (body_seen k body.now)) }
+    ensures some { (k : Known) → IfSome result (λ s. states_seen k.places s.now ≡ states_of (Some (body_seen k body.now))) }
+    ensures sound { (k : Known) → IsBody k body.now → IfSome result (λ s. AreStates k.places s.now) }
+{
+    match body {
+        Body::Set(set) => Some(&set.states),
+        Body::Domain(domain) => Some(&domain.states),
+        Body::Group(group) => Some(&**group),
         _ => None,
     }
 }
@@ -85,5 +101,15 @@ impl Objects {
             Some(at) => Some(at),
             None => self.find(name),
         }
+    }
+
+    /// The power states of an object, where it can have some.
+    pub fn states(&self, at: u32) -> Option<&PowerStates>
+        requires { at < length self.now.objects }
+        ensures none { is_some result ≡ has_states (body_at self.now.objects at) }
+        ensures some { IfSome result (λ s. states_seen self.now.places s.now ≡ states_of (body_at self.now.objects at)) }
+        ensures sound { IfSome result (λ s. AreStates self.now.places s.now) }
+    {
+        states_of(self.body(at))
     }
 }

@@ -1,5 +1,5 @@
 -- What numbers stand for stays where there are more places and objects.
-use Rattle.std.proofs.Common.{◌≡◌, ℕ, suc, ◌+◌, ◌<◌, ◌≤◌, List, [], ◌∷◌, ◌++◌, Option, Some, None, option_map, length, get_or, map, refl, sym, ap, ◌∙◌, arith, length-append}
+use Rattle.std.proofs.Common.{◌≡◌, ℕ, suc, ◌<◌, ◌≤◌, List, [], ◌∷◌, ◌++◌, Option, Some, None, option_map, length, map, refl, ap, ◌∙◌, arith, length-append}
 use Rattle.std.specs.List.{All}
 use Rattle.std.specs.Option.{IfSome}
 use Rattle.std.proofs.Math.ListN.{get_or-append}

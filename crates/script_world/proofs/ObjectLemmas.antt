@@ -1,5 +1,5 @@
 -- What the objects of a world are by their rows.
-use Rattle.std.proofs.Common.{◌≡◌, ℕ, ◌<◌, Bool, true, false, List, [], ◌∷◌, ◌++◌, Option, Some, None, is_some, option_map, option_and_then, slice_get, set, length, map, if◌then◌else◌, refl, sym, ap, subst, ◌∙◌}
+use Rattle.std.proofs.Common.{◌≡◌, ℕ, ◌<◌, true, false, List, [], ◌∷◌, ◌++◌, Option, Some, None, is_some, option_map, option_and_then, slice_get, set, length, map, if◌then◌else◌, refl, sym, ap, subst, ◌∙◌}
 use Rattle.std.specs.List.{All, find}
 use Rattle.std.specs.Option.{IfSome}
 use Rattle.std.proofs.lemmas.List.Elements.{All-head, All-push, All-tail, All-weaker}
@@ -8,7 +8,6 @@ use Rattle.std.proofs.lemmas.Option.{get_or_from_slice_get, slice_get-map, slice
 use Rattle.std.proofs.lemmas.Simd.{map-map}
 use Rattle.list_defs.specs.Members.{all_differ, place_of, same_name}
 use Rattle.list_defs.proofs.NameLemmas.{is_some-place_of, place_of-map, place_of-own, place_of-within, slice_get-place_of}
-use Rattle.design_defs.specs.Names.{joined}
 use Rattle.named_rows.specs.Rows.{names_in, rows_in as own_rows, with_row}
 use Rattle.named_rows.proofs.PlaceLemmas.{All-other_row, changed_at, find-place_of, map-same_row, map-with_row, names_in-with_row, read_row, row_at, row_holds}
 use Rattle.script_defs.specs.StateSteps.{rows_in as made_rows}
@@ -21,7 +20,7 @@ use Rattle.script_world.specs.declared.bodies.ObjectRow.{ObjectRow}
 use Rattle.script_world.specs.Changes.{body_at, table_rows}
 use Rattle.script_world.specs.Objects.{AreRows, Extends, IsNamed, IsRow, Places, is_named, known_by, known_in, named_at, object_seen, objects_seen, world_of}
 use Rattle.script_world.specs.Ranges.{IsBody, IsOrigin}
-use Rattle.script_world.specs.Seen.{Known, body_seen, name_at, origin_seen, row_seen}
+use Rattle.script_world.specs.Seen.{Known, body_seen, name_at, row_seen}
 use Rattle.script_world.proofs.KeepLemmas.{Keeps, keeps_more, keeps_same, objects_kept, rows_in}
 use Rattle.script_world.proofs.StateLemmas.{is_some-find}
 

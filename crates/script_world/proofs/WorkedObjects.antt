@@ -1,11 +1,10 @@
 -- Rows of the script of the two blocks, which stand for the objects that its lines make.
-use Rattle.std.proofs.Common.{◌≡◌, ◌<◌, ℕ, true, false, List, [], ◌∷◌, Option, Some, None, Fits-lit, lit<, map, refl}
+use Rattle.std.proofs.Common.{◌≡◌, ℕ, true, false, List, [], ◌∷◌, Some, None, refl}
 use Rattle.std.specs.Prelude.{codes}
 use Rattle.std.specs.Box.{with_value}
 use Rattle.std.specs.Global.{Box}
-use Rattle.std.proofs.lemmas.List.Elements.{All-from_recursion}
 use Rattle.pw_defs.specs.declared.supplies.SupplyKind.TheVariants.{Net}
-use Rattle.script_defs.specs.LookUps.{HandleName, is_taken, set_at, whole_name}
+use Rattle.script_defs.specs.LookUps.{HandleName, is_taken, set_at}
 use Rattle.script_defs.specs.Statements.{Clause, Parts}
 use Rattle.script_defs.specs.SupplySteps.{after_handle}
 use Rattle.script_defs.specs.Worked.{clause, ground_clause, power_clause}
@@ -19,7 +18,7 @@ use Rattle.script_world.specs.declared.bodies.SetBody.{SetBody}
 use Rattle.script_world.specs.declared.parts.GivenClause.{GivenClause}
 use Rattle.script_world.specs.declared.parts.Origin.{Origin}
 use Rattle.script_world.specs.declared.states.PowerStates.{PowerStates}
-use Rattle.script_world.specs.Objects.{AreRows, IsRow, Places, known_by, object_seen, objects_seen, world_of}
+use Rattle.script_world.specs.Objects.{known_by, object_seen, objects_seen, world_of}
 
 -- the scope and the file of the script's lines
 abbrev places : List (List ℕ)

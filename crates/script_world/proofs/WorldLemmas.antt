@@ -1,8 +1,8 @@
 -- Bodies and states that are changed one after the other, for those who make a world line by line.
-use Rattle.std.proofs.Common.{◌≡◌, ℕ, Bool, true, false, List, [], ◌∷◌, Option, Some, None, cond, is_some, option_map, find, map, if◌then◌else◌, refl, sym, ap, ◌∙◌}
+use Rattle.std.proofs.Common.{◌≡◌, ℕ, Bool, true, false, List, [], ◌∷◌, Option, Some, None, cond, is_some, option_map, find, map, if◌then◌else◌, refl, ap, ◌∙◌}
 use Rattle.list_defs.specs.Members.{same_name}
-use Rattle.script_defs.specs.World.{Body, GivenClause, Handle, Object, PowerState, PowerStates, World}
-use Rattle.script_defs.specs.LookUps.{body_named, is_taken, whole_name}
+use Rattle.script_defs.specs.World.{Body, Object, PowerState, PowerStates, World}
+use Rattle.script_defs.specs.LookUps.{body_named, is_taken}
 use Rattle.script_defs.specs.PowerStateSteps.{changed, states_at, states_of, with_states, with_states_at}
 use Rattle.script_defs.specs.SupplySteps.{after_body, with_body}
 use Rattle.script_world.specs.Changes.{has_states}

@@ -1,10 +1,10 @@
 -- Changes of bodies.
-use Rattle.std.specs.Prelude.{ℕ, Bool, true, false, List, [], ◌∷◌, ◌++◌, Option, None, Some, option_map, slice_get}
+use Rattle.std.specs.Prelude.{ℕ, Bool, true, false, List, [], ◌∷◌, ◌++◌, Option, Some, option_map, slice_get}
 use Rattle.pw_defs.specs.declared.values.Value.{Value}
 use Rattle.script_defs.specs.World.{Body as MadeBody, Object}
 use Rattle.script_defs.specs.StateSteps.{columns_in, rows_in}
 use Rattle.script_world.specs.declared.bodies.Body.{Body}
-use Rattle.script_world.specs.declared.bodies.Body.TheVariants.{Supply, Set, Switch, Domain, Table, Group, Strategy, PowerModel}
+use Rattle.script_world.specs.declared.bodies.Body.TheVariants.{Table}
 use Rattle.script_world.specs.Seen.{row_seen}
 
 -- the body of an object by its number

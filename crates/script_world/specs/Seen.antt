@@ -1,6 +1,6 @@
 -- What the numbers of a world in code stand for.
-use Rattle.std.specs.Prelude.{ℕ, ◌+◌, List, [], ◌∷◌, Option, None, Some, option_map, map, length, drop, slice_index_or}
-use Rattle.script_defs.specs.World.{Body as MadeBody, Expression as MadeExpression, GivenClause as MadeClause, Handle as MadeHandle, Object, Origin as MadeOrigin, PowerState, PowerStates as MadeStates, Row, SupplyKey as MadeKey}
+use Rattle.std.specs.Prelude.{ℕ, List, [], Option, None, Some, option_map, map, slice_index_or}
+use Rattle.script_defs.specs.World.{Body as MadeBody, Expression as MadeExpression, GivenClause as MadeClause, Handle as MadeHandle, Origin as MadeOrigin, PowerState, PowerStates as MadeStates, Row, SupplyKey as MadeKey}
 use Rattle.pw_defs.specs.declared.values.Value.{Value}
 use Rattle.script_world.specs.declared.bodies.Body.{Body}
 use Rattle.script_world.specs.declared.bodies.Body.TheVariants.{Supply, Set, Switch, Domain, Table, Group, Strategy, PowerModel}

@@ -1,5 +1,5 @@
 -- Changes of the states of an object.
-use Rattle.std.specs.Prelude.{◌≡◌, ℕ, List, [], ◌∷◌, ◌++◌, Some}
+use Rattle.std.specs.Prelude.{◌≡◌, ℕ, [], ◌∷◌, ◌++◌, Some}
 use Rattle.std.specs.Option.{option_or}
 use Rattle.script_defs.specs.World.{Expression as MadeExpression, PowerState}
 use Rattle.script_world.specs.declared.states.PowerStates.{PowerStates}

@@ -1,5 +1,5 @@
-use Rattle.std.proofs.Common.{eq-eqb, ◌≤◌, length, subst, ℕ, arith}
-use Rattle.script_world.proofs.DotLemmas.{HasNoDotFrom, last_dot, no_dot}
+use Rattle.std.proofs.Common.{eq-eqb, ◌≤◌, arith}
+use Rattle.script_world.proofs.DotLemmas.{last_dot, no_dot}
 use Rattle.script_world.proofs.handles.last_dot.Goals as goal
 
 pub returns-then-name-end-eq46-clause-some : goal.returns-then-name-end-eq46-clause-some

@@ -1,5 +1,4 @@
-use Rattle.std.proofs.Common.{◌≡◌, ℕ, List, [], ◌∷◌, ◌++◌, length, None, sym, ap, ◌∙◌}
-use Rattle.std.specs.List.{zip}
+use Rattle.std.proofs.Common.{◌≡◌, ℕ, List, [], ◌∷◌, ◌++◌, None, sym, ap, ◌∙◌}
 use Rattle.list_defs.specs.Members.{place_of, same_name}
 use Rattle.named_rows.proofs.RowLemmas.{names_of_view, count-push, zip-push}
 use Rattle.named_rows.proofs.rows.NamedRows.add.Goals as goal

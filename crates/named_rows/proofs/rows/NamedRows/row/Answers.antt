@@ -1,4 +1,4 @@
-use Rattle.std.proofs.Common.{List, ◌<◌, length, ap, sym, ◌∙◌, slice_get, arith}
+use Rattle.std.proofs.Common.{List, ◌<◌, length, ap, ◌∙◌, slice_get, arith}
 use Rattle.std.proofs.lemmas.Option.{slice_get_read}
 use Rattle.std.specs.Prelude.{refl}
 use Rattle.named_rows.proofs.RowLemmas.{rows_of_view, count_of_view}

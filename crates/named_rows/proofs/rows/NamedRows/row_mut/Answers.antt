@@ -10,17 +10,16 @@ index_mut-requires g c = omega (arith, c.requires, c.self.invariant, count_of_vi
 pub returns : goal.returns
 returns g c =
     let within : c.args.at < length c.self.inside.rows.items =
-    omega (arith, c.requires, c.self.invariant, count_of_view c.self.inside.names c.self.inside.rows.items c.args.self.now c.self.invariant c.self.view_is) in
-    (
+    omega (arith, c.requires, c.self.invariant, count_of_view c.self.inside.names c.self.inside.rows.items c.args.self.now c.self.invariant c.self.view_is) in (
       (
         refl {a = c.index_mut.result.ghost_name},
         λ w. sym (with_row-zip c.self.inside.names c.self.inside.rows.items c.args.at w)
-            ∙ ap (λ (rows : List (List ℕ × g.row.T.Denot)). with_row rows c.args.at w) c.self.view_is
+            ∙ ap (λ (rows : List (List ℕ × g.row.T.Denot)). with_row rows c.args.at w) c.self.view_is,
       ),
       record {
         writes_back = tt;
         row = ap (λ (rows : List g.row.T.Denot). slice_get rows c.args.at)
             (rows_of_view c.self.inside.names c.self.inside.rows.items c.args.self.now c.self.invariant c.self.view_is)
             ∙ slice_get_read c.self.inside.rows.items (length c.self.inside.rows.items) c.args.at c.index_mut.result.now refl within c.index_mut.ensures.value;
-      }
+      },
     )

@@ -1,10 +1,10 @@
-use Rattle.std.proofs.Common.{◌≡◌, List, ℕ, None, Option, true, map, ap, sym, ◌∙◌}
+use Rattle.std.proofs.Common.{List, ℕ, Option, map, ap, sym, ◌∙◌}
 use Rattle.list_defs.specs.Members.{place_of, same_name}
 use Rattle.script_defs.specs.LookUps.{is_table}
 use Rattle.script_defs.specs.StateSteps.{rows_in}
 use Rattle.script_defs.specs.SupplySteps.{with_body}
 use Rattle.script_defs.specs.World.{Body as MadeBody, Row}
-use Rattle.script_world.specs.Changes.{body_at, with_table_row}
+use Rattle.script_world.specs.Changes.{with_table_row}
 use Rattle.script_world.specs.Objects.{known_in, world_of}
 use Rattle.script_world.proofs.ObjectLemmas.{body_fits_known, body_was, known_same, objects_other, objects_same, row_names, rows_other}
 use Rattle.script_world.proofs.StateLemmas.{on_err}

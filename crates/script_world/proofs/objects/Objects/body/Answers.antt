@@ -1,5 +1,4 @@
-use Rattle.std.proofs.Common.{◌≡◌, ap, refl, sym, subst}
-use Rattle.script_world.specs.Objects.{known_in}
+use Rattle.std.proofs.Common.{ap, sym, subst}
 use Rattle.script_world.specs.Ranges.{IsBody}
 use Rattle.script_world.specs.Seen.{Known, body_seen}
 use Rattle.script_world.proofs.ObjectLemmas.{body_fits, known_is, read_object}

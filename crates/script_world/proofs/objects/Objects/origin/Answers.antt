@@ -1,4 +1,4 @@
-use Rattle.std.proofs.Common.{◌≡◌, List, ℕ, ap, sym, subst}
+use Rattle.std.proofs.Common.{List, ℕ, ap, sym, subst}
 use Rattle.script_world.specs.Ranges.{IsOrigin}
 use Rattle.script_world.specs.Seen.{origin_seen}
 use Rattle.script_world.proofs.ObjectLemmas.{origin_fits, places_are, read_object}

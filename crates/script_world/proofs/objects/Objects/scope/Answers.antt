@@ -1,4 +1,4 @@
-use Rattle.std.proofs.Common.{◌≡◌, List, ℕ, [], ap, refl, sym, slice_get, ◌∙◌}
+use Rattle.std.proofs.Common.{List, ℕ, [], ap, refl, sym, slice_get, ◌∙◌}
 use Rattle.std.proofs.lemmas.Option.{slice_get-get_or}
 use Rattle.script_world.specs.Seen.{name_at}
 use Rattle.script_world.proofs.ObjectLemmas.{places_are, read_object, scope_fits}

@@ -1,11 +1,10 @@
-use Rattle.std.proofs.Common.{◌≡◌, Option, true, ap, sym, ◌∙◌}
+use Rattle.std.proofs.Common.{Option, ap, sym, ◌∙◌}
 use Rattle.script_defs.specs.LookUps.{is_domain}
 use Rattle.script_defs.specs.SupplySteps.{with_handle}
 use Rattle.script_defs.specs.World.{Body as MadeBody}
 use Rattle.script_world.specs.Handles.{handle_name_seen}
 use Rattle.script_world.specs.Objects.{known_in}
-use Rattle.script_world.specs.Ranges.{IsBody}
-use Rattle.script_world.specs.Seen.{Known, handle_seen}
+use Rattle.script_world.specs.Seen.{handle_seen}
 use Rattle.script_world.proofs.ObjectLemmas.{body_fits_known, body_was, known_same, rows_other, world_other}
 use Rattle.script_world.proofs.objects.Objects.set_handle.Goals as goal
 

@@ -1,7 +1,6 @@
-use Rattle.std.proofs.Common.{◌≡◌, List, ℕ, ap, sym, ◌∙◌, subst}
-use Rattle.script_defs.specs.World.{Object}
+use Rattle.std.proofs.Common.{ap, sym, ◌∙◌, subst}
 use Rattle.script_world.specs.declared.bodies.Body.{Body}
-use Rattle.script_world.specs.Objects.{Places, known_in, world_of}
+use Rattle.script_world.specs.Objects.{known_in, world_of}
 use Rattle.script_world.specs.Ranges.{IsBody}
 use Rattle.script_world.specs.Seen.{Known, body_seen}
 use Rattle.script_defs.specs.SupplySteps.{with_body}

@@ -1,4 +1,4 @@
-use Rattle.std.proofs.Common.{◌≡◌, Option, true, ap, sym, ◌∙◌}
+use Rattle.std.proofs.Common.{Option, ap, sym, ◌∙◌}
 use Rattle.script_defs.specs.PowerStateSteps.{states_of, with_states}
 use Rattle.script_defs.specs.World.{Body as MadeBody}
 use Rattle.script_world.specs.Changes.{has_states}

@@ -1,4 +1,4 @@
-use Rattle.std.proofs.Common.{◌≡◌, ◌++◌, ◌∷◌, [], ℕ, List, None, Some, ap, sym, ◌∙◌}
+use Rattle.std.proofs.Common.{[], ℕ, List, None, Some, ap, sym, ◌∙◌}
 use Rattle.list_defs.specs.Members.{place_of, same_name}
 use Rattle.named_rows.specs.Rows.{names_in}
 use Rattle.named_rows.proofs.PlaceLemmas.{place_of-more}

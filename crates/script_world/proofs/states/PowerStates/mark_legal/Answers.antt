@@ -2,7 +2,6 @@ use Rattle.std.proofs.Common.{◌≡◌, ℕ, List, Option, true, ap, sym, ◌�
 use Rattle.list_defs.specs.Members.{all_differ, same_name}
 use Rattle.named_rows.specs.Rows.{names_in}
 use Rattle.named_rows.proofs.PlaceLemmas.{names_in-with_row}
-use Rattle.script_defs.specs.World.{PowerState}
 use Rattle.script_world.specs.declared.states.StateRow.{StateRow}
 use Rattle.script_world.specs.Seen.{rows_of, state_seen}
 use Rattle.script_world.specs.States.{marked_legal}

@@ -1,1 +1,4 @@
+pub mod CommandNames
+pub mod Said
+pub mod Taken
 pub mod Views

@@ -1,10 +1,10 @@
 //! What stands in a statement.
-ghost use Rattle.std.specs.Prelude.{◌≡◌, ◌++◌, IfOk, OnOk, option_map};
-ghost use Rattle.script_defs.specs.Statements.{names_in, pairs_in, truth_in, is_given, is_true, name_of, names_of, pairs_of, subject_of};
-ghost use Rattle.upf_statements.specs.Views.{pairs_view, texts_view};
+ghost use Rattle.std.specs.Prelude.{◌≡◌, ◌++◌, IfOk, OnOk, map, option_map, option_to_list};
+ghost use Rattle.script_defs.specs.Statements.{names_in, pairs_in, truth_in, volts_in, values_in, described_in, is_given, is_true, name_of, names_of, pairs_of, subject_of};
+ghost use Rattle.upf_statements.specs.Views.{option_view, pairs_view, texts_view};
 
-use crate::statements::{Clause, Parts, Statement};
-use pw_defs::{Bytes, Memory};
+use crate::statements::{Clause, Parts, StateOption, Statement};
+use pw_defs::{Bytes, Memory, Value};
 use std::alloc::Global;
 use std::slice::from_ref;
 
@@ -40,6 +40,36 @@ impl Clause {
             Parts::Flag => true,
             Parts::Truth(says) => *says,
             _ => false,
+        }
+    }
+
+    /// The microvolts that the value gives.
+    pub fn volts(&self) -> Option<u32>
+        ensures { option_to_list result ≡ volts_in self.now.parts }
+    {
+        match &self.parts {
+            Parts::Volts(microvolts) => Some(*microvolts),
+            _ => None,
+        }
+    }
+
+    /// The state of a supply that the value gives, with the supply's value in it.
+    pub fn state_value(&self) -> Option<(&[u8], Value)>
+        ensures { option_to_list (option_map (λ v. (v.0.now, v.1)) result) ≡ values_in self.now.parts }
+    {
+        match &self.parts {
+            Parts::Valued(name, value) => Some((name.as_slice(), *value)),
+            _ => None,
+        }
+    }
+
+    /// The state of an object that the value describes, with its options.
+    pub fn described(&self) -> Option<(&[u8], &[StateOption])>
+        ensures { option_to_list (option_map (λ d. (d.0.now, map option_view d.1.now)) result) ≡ described_in self.now.parts }
+    {
+        match &self.parts {
+            Parts::Described(name, options) => Some((name.as_slice(), options.as_slice())),
+            _ => None,
         }
     }
 }

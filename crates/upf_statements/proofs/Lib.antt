@@ -1,0 +1,7 @@
+pub mod NamedCommands
+pub mod SaidLemmas
+pub mod StateLemmas
+pub mod TableLemmas
+pub mod TakenLemmas
+pub mod ValueLemmas
+pub mod ZipLemmas

@@ -63,6 +63,12 @@ read_row see f (p ∷ rows) zero row a same there =
     ap (λ own. Some (f (see (p.0, own)))) here ∙ ap Some (same p.0)
 read_row see f (p ∷ rows) (suc n) row a same there = read_row see f rows n row a same there
 
+-- the row that was put at a place
+pub row_put : {X : Type 0} (rows : List (List ℕ × X)) (n : ℕ) (old row : X) → slice_get (rows_in rows) n ≡ Some old → slice_get (rows_in (with_row rows n row)) n ≡ Some row
+row_put [] n old row there = absurd (none_some there)
+row_put (p ∷ rows) zero old row there = refl
+row_put (p ∷ rows) (suc n) old row there = row_put rows n old row there
+
 -- a row put in its own place
 pub with_row_same : {X : Type 0} (rows : List (List ℕ × X)) (n : ℕ) (row : X) → slice_get (rows_in rows) n ≡ Some row → with_row rows n row ≡ rows
 with_row_same [] n row there = refl

@@ -9,7 +9,7 @@ use Rattle.std.proofs.lemmas.Simd.{map-map}
 use Rattle.list_defs.specs.Members.{all_differ, place_of, same_name}
 use Rattle.list_defs.proofs.NameLemmas.{is_some-place_of, place_of-map, place_of-own, place_of-within, slice_get-place_of}
 use Rattle.named_rows.specs.Rows.{names_in, rows_in as own_rows, with_row}
-use Rattle.named_rows.proofs.PlaceLemmas.{All-other_row, changed_at, find-place_of, map-same_row, map-with_row, names_in-with_row, read_row, row_at, row_holds}
+use Rattle.named_rows.proofs.PlaceLemmas.{All-other_row, changed_at, find-place_of, map-same_row, map-with_row, names_in-with_row, read_row, row_at, row_holds, row_put}
 use Rattle.script_defs.specs.StateSteps.{rows_in as made_rows}
 use Rattle.script_defs.specs.World.{Body as MadeBody, Object, Row, World}
 use Rattle.script_defs.specs.LookUps.{body_named, whole_name}
@@ -23,6 +23,7 @@ use Rattle.script_world.specs.Ranges.{IsBody, IsOrigin}
 use Rattle.script_world.specs.Seen.{Known, body_seen, name_at, row_seen}
 use Rattle.script_world.proofs.KeepLemmas.{Keeps, keeps_more, keeps_same, objects_kept, rows_in}
 use Rattle.script_world.proofs.StateLemmas.{is_some-find}
+use Rattle.script_world.proofs.WorldLemmas.{body_by_number}
 
 -- what holds of all holds of each
 All-at : {X : Type 0} (P : X → Type 0) (xs : List X) (n : ℕ) (x : X) → All P xs → slice_get xs n ≡ Some x → P x
@@ -239,14 +240,17 @@ module _ (places : List (List ℕ)) (rows : List (List ℕ × ObjectRow)) (v : P
       read_object places rows v all view (λ (o : Object). o.body) at row (body_seen (known_in v) row.body)
       (λ name. ap (λ (k : Known). body_seen k row.body) (sym (known_is places rows v all view))) there
 
+  -- and has the other one then
+  pub body_after : IsBody (known_in v) body → body_at (objects_seen places other_rows).objects at ≡ Some (body_seen (known_in v) body)
+  body_after fits =
+      read_object places other_rows (objects_seen places other_rows) (rows_other fits) refl (λ (o : Object). o.body) at other (body_seen (known_in v) body)
+      (λ name. ap (λ (k : Known). body_seen k body) (sym (known_is places other_rows (objects_seen places other_rows) (rows_other fits) refl) ∙ known_same fits))
+      (row_put rows at row other there)
+
   body_of_name : (name : List ℕ) → all_differ same_name (names_in rows) ≡ true → named_at v.objects at ≡ Some name
       → body_named (world_of v.objects) name ≡ Some (body_seen (known_in v) row.body)
   body_of_name name differ named =
-      let place : place_of (is_named name) v.objects ≡ Some at =
-      sym (places_found places rows v all view name) ∙ place_of-own name (names_in rows) at differ (name_of_row places rows v all view at name named) in
-      let found : find (is_named name) v.objects ≡ slice_get v.objects at =
-      sym (find-place_of (is_named name) v.objects) ∙ ap (option_and_then (slice_get v.objects)) place in
-      ap (λ (o : Option Object). option_map (λ (x : Object). x.body) o) found ∙ body_was
+      body_by_number v.objects at name (ap (all_differ same_name) (names_are places rows v all view) ∙ differ) named ∙ body_was
 
   -- the world with what a step makes of the body
   pub world_other : (name : List ℕ) → all_differ same_name (names_in rows) ≡ true → named_at v.objects at ≡ Some name

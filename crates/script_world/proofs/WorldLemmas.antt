@@ -1,12 +1,32 @@
 -- Bodies and states that are changed one after the other, for those who make a world line by line.
-use Rattle.std.proofs.Common.{◌≡◌, ℕ, Bool, true, false, List, [], ◌∷◌, Option, Some, None, cond, is_some, option_map, find, map, if◌then◌else◌, refl, ap, ◌∙◌}
-use Rattle.list_defs.specs.Members.{same_name}
+use Rattle.std.proofs.Common.{◌≡◌, ℕ, Bool, true, false, List, [], ◌∷◌, Option, Some, None, cond, is_some, option_and_then, option_map, slice_get, find, map, if◌then◌else◌, refl, sym, ap, ◌∙◌}
+use Rattle.std.proofs.lemmas.Option.{slice_get-map}
+use Rattle.list_defs.specs.Members.{all_differ, place_of, same_name}
+use Rattle.list_defs.proofs.NameLemmas.{place_of-map, place_of-own}
+use Rattle.named_rows.proofs.PlaceLemmas.{find-place_of}
 use Rattle.script_defs.specs.World.{Body, Object, PowerState, PowerStates, World}
-use Rattle.script_defs.specs.LookUps.{body_named, is_taken}
+use Rattle.script_defs.specs.LookUps.{body_named, is_taken, whole_name}
 use Rattle.script_defs.specs.PowerStateSteps.{changed, states_at, states_of, with_states, with_states_at}
 use Rattle.script_defs.specs.SupplySteps.{after_body, with_body}
-use Rattle.script_world.specs.Changes.{has_states}
-use Rattle.script_world.specs.Objects.{is_named}
+use Rattle.script_world.specs.Changes.{body_at, has_states}
+use Rattle.script_world.specs.Objects.{Places, is_named, known_in, named_at, world_of}
+use Rattle.script_world.specs.Seen.{Known}
+
+-- where whole names differ, an object is the same by its name and by its number
+pub body_by_number : (objects : List Object) (at : ℕ) (name : List ℕ) → all_differ same_name (map whole_name objects) ≡ true → named_at objects at ≡ Some name
+    → body_named (world_of objects) name ≡ body_at objects at
+body_by_number objects at name differ named =
+    let place : place_of (is_named name) objects ≡ Some at =
+    sym (place_of-map whole_name (same_name name) objects)
+    ∙ place_of-own name (map whole_name objects) at differ (slice_get-map whole_name objects at ∙ named) in
+    let found : find (is_named name) objects ≡ slice_get objects at =
+    sym (find-place_of (is_named name) objects) ∙ ap (option_and_then (slice_get objects)) place in
+    ap (λ (o : Option Object). option_map (λ (x : Object). x.body) o) found
+
+-- numbers that stand for the same names
+pub named_as_known : (p q : Places) (at : ℕ) → known_in p ≡ known_in q → named_at p.objects at ≡ named_at q.objects at
+named_as_known p q at same =
+    sym (slice_get-map whole_name p.objects at) ∙ ap (λ (k : Known). slice_get k.objects at) same ∙ slice_get-map whole_name q.objects at
 
 abbrev put_body : List ℕ → Body → Object → Object
 put_body name body o = if is_named name o then record o { body = body } else o
@@ -61,6 +81,18 @@ taken_by w name b e = by (find (is_named name) w.objects) e
 
 put_there : (w : World) (name : List ℕ) (was b : Body) → body_named w name ≡ Some was → body_named (with_body w name b) name ≡ Some b
 put_there w name was b e = body_put w name b ∙ ap (λ t. if t then Some b else None) (taken_by w name was e)
+
+-- what can have states can have others
+pub states_stay : (s : PowerStates) (o : Option Body) → has_states o ≡ true → has_states (with_states s o) ≡ true
+states_stay s None can = cc
+states_stay s (Some (Body.supply kind)) can = cc
+states_stay s (Some (Body.set given old)) can = refl
+states_stay s (Some (Body.switch output inputs on)) can = cc
+states_stay s (Some (Body.domain given primary isolation old)) can = refl
+states_stay s (Some (Body.table columns rows)) can = cc
+states_stay s (Some (Body.group old)) can = refl
+states_stay s (Some (Body.strategy tool given)) can = cc
+states_stay s (Some (Body.power_model modules lines)) can = cc
 
 -- of two lists of states the second stays, and an object has the states that it was given
 module _ (w : World) (name : List ℕ) (s t : PowerStates) where

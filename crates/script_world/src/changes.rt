@@ -69,6 +69,7 @@ impl Objects {
         requires domain { is_domain (body_at self.old.objects at) ≡ true }
         requires set { IsHandle (known_in self.old).objects set }
         ensures objects { (name : List ℕ) → named_at self.old.objects at ≡ Some name → world_of self.new.objects ≡ after_handle (world_of self.old.objects) (name, handle_name_seen handle) (name_at (known_in self.old).objects set.set) set.line }
+        ensures after { body_at self.new.objects at ≡ with_handle (handle_name_seen handle) (handle_seen (known_in self.old).objects set) (body_at self.old.objects at) }
         ensures known { known_in self.new ≡ known_in self.old }
     {
         let _differ = self.rows.len();
@@ -81,6 +82,8 @@ impl Objects {
         requires stateful { has_states (body_at self.old.objects at) ≡ true }
         requires states { AreStates self.old.places states.old }
         ensures objects { (name : List ℕ) → named_at self.old.objects at ≡ Some name → world_of self.new.objects ≡ with_states_at (world_of self.old.objects) name (states_seen self.old.places states.old) }
+        ensures after { body_at self.new.objects at ≡ with_states (states_seen self.old.places states.old) (body_at self.old.objects at) }
+        ensures stateful { has_states (body_at self.new.objects at) ≡ true }
         ensures known { known_in self.new ≡ known_in self.old }
         ensures states { states_seen self.old.places states.new ≡ states_of (body_at self.old.objects at) }
         ensures sound { AreStates self.old.places states.new }

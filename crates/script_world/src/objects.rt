@@ -3,6 +3,7 @@ ghost use Rattle.std.specs.Prelude.{◌≡◌, ◌<◌, ◌++◌, ◌∷◌, [],
 ghost use Rattle.list_defs.specs.Members.{all_differ, place_of, same_name};
 ghost use Rattle.script_defs.specs.LookUps.{is_taken, object_at, whole_name};
 ghost use Rattle.script_defs.specs.SupplySteps.{with_body};
+ghost use Rattle.script_world.specs.Changes.{body_at};
 ghost use Rattle.script_world.specs.Objects.{Extends, IsNamed, is_named, known_in, made_object, named_at, simple_name, world_of};
 ghost use Rattle.script_world.specs.Ranges.{IsBody, IsOrigin};
 ghost use Rattle.script_world.specs.Seen.{body_seen, name_at, origin_seen};
@@ -148,7 +149,7 @@ impl Objects {
     /// What an object is.
     pub fn body(&self, at: u32) -> &Body
         requires { at < length self.now.objects }
-        ensures body { option_map (λ o. o.body) (slice_get self.now.objects at) ≡ Some (body_seen (known_in self.now) result.now) }
+        ensures body { body_at self.now.objects at ≡ Some (body_seen (known_in self.now) result.now) }
         ensures sound { IsBody (known_in self.now) result.now }
     {
         &self.rows.row(at).body
@@ -189,9 +190,10 @@ impl Objects {
     pub fn swap_body(&mut self, at: u32, body: &mut Body)
         requires at { at < length self.old.objects }
         requires body { IsBody (known_in self.old) body.old }
-        ensures body { option_map (λ o. o.body) (slice_get self.old.objects at) ≡ Some (body_seen (known_in self.old) body.new) }
+        ensures body { body_at self.old.objects at ≡ Some (body_seen (known_in self.old) body.new) }
         ensures sound { IsBody (known_in self.old) body.new }
         ensures objects { (name : List ℕ) → named_at self.old.objects at ≡ Some name → world_of self.new.objects ≡ with_body (world_of self.old.objects) name (body_seen (known_in self.old) body.old) }
+        ensures after { body_at self.new.objects at ≡ Some (body_seen (known_in self.old) body.old) }
         ensures known { known_in self.new ≡ known_in self.old }
     {
         let _differ = self.rows.len();

@@ -1,10 +1,10 @@
-use Rattle.std.proofs.Common.{ap, sym, ◌∙◌, subst}
+use Rattle.std.proofs.Common.{Some, ap, sym, ◌∙◌, subst}
 use Rattle.script_world.specs.declared.bodies.Body.{Body}
 use Rattle.script_world.specs.Objects.{known_in, world_of}
 use Rattle.script_world.specs.Ranges.{IsBody}
 use Rattle.script_world.specs.Seen.{Known, body_seen}
 use Rattle.script_defs.specs.SupplySteps.{with_body}
-use Rattle.script_world.proofs.ObjectLemmas.{body_fits, known_is, known_same, objects_other, read_object, rows_other}
+use Rattle.script_world.proofs.ObjectLemmas.{body_after, body_fits, known_is, known_same, objects_other, read_object, rows_other}
 use Rattle.script_world.proofs.objects.Objects.swap_body.Goals as goal
 
 pub invariant_of-self : goal.invariant_of-self
@@ -45,3 +45,10 @@ returns-clause-known c =
     let P : Body → Type 0 = λ b. IsBody (known_in c.args.self.now) b in
     known_same c.self.inside.places c.self.inside.rows c.args.self.now c.self.invariant c.self.view_is c.args.at c.row_mut.result.now c.swap.new.x
     c.row_mut.ensures.row (subst P (sym c.swap.ensures.x_after) c.requires.body)
+
+pub returns-clause-after : goal.returns-clause-after
+returns-clause-after c =
+    let P : Body → Type 0 = λ b. IsBody (known_in c.args.self.now) b in
+    body_after c.self.inside.places c.self.inside.rows c.args.self.now c.self.invariant c.self.view_is c.args.at c.row_mut.result.now c.swap.new.x
+    c.row_mut.ensures.row (subst P (sym c.swap.ensures.x_after) c.requires.body)
+    ∙ ap (λ (b : Body). Some (body_seen (known_in c.args.self.now) b)) c.swap.ensures.x_after

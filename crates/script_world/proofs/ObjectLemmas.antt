@@ -1,5 +1,5 @@
 -- What the objects of a world are by their rows.
-use Rattle.std.proofs.Common.{◌≡◌, ℕ, ◌<◌, true, false, List, [], ◌∷◌, ◌++◌, Option, Some, None, is_some, option_map, option_and_then, slice_get, set, length, map, if◌then◌else◌, refl, sym, ap, subst, ◌∙◌}
+use Rattle.std.proofs.Common.{◌≡◌, ℕ, ◌<◌, true, false, List, [], ◌∷◌, ◌++◌, Option, Some, None, is_some, option_map, slice_get, set, length, map, if◌then◌else◌, refl, sym, ap, subst, ◌∙◌}
 use Rattle.std.specs.List.{All, find}
 use Rattle.std.specs.Option.{IfSome}
 use Rattle.std.proofs.lemmas.List.Elements.{All-head, All-push, All-tail, All-weaker}
@@ -7,9 +7,9 @@ use Rattle.std.proofs.lemmas.List.{length-map, map-append}
 use Rattle.std.proofs.lemmas.Option.{get_or_from_slice_get, slice_get-map, slice_get_within}
 use Rattle.std.proofs.lemmas.Simd.{map-map}
 use Rattle.list_defs.specs.Members.{all_differ, place_of, same_name}
-use Rattle.list_defs.proofs.NameLemmas.{is_some-place_of, place_of-map, place_of-own, place_of-within, slice_get-place_of}
+use Rattle.list_defs.proofs.NameLemmas.{is_some-place_of, place_of-map, place_of-within, slice_get-place_of}
 use Rattle.named_rows.specs.Rows.{names_in, rows_in as own_rows, with_row}
-use Rattle.named_rows.proofs.PlaceLemmas.{All-other_row, changed_at, find-place_of, map-same_row, map-with_row, names_in-with_row, read_row, row_at, row_holds, row_put}
+use Rattle.named_rows.proofs.PlaceLemmas.{All-other_row, changed_at, map-same_row, map-with_row, names_in-with_row, read_row, row_at, row_holds, row_put}
 use Rattle.script_defs.specs.StateSteps.{rows_in as made_rows}
 use Rattle.script_defs.specs.World.{Body as MadeBody, Object, Row, World}
 use Rattle.script_defs.specs.LookUps.{body_named, whole_name}

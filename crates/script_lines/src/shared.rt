@@ -56,4 +56,16 @@ impl Lines {
             to: self.from + to,
         })
     }
+
+    /// The same lines, which are not copied.
+    pub fn share(&self) -> Result<Lines, Memory>
+        ensures { IfOk result (λ lines. lines ≡ self.now) }
+    {
+        let text = self.text.clone()?;
+        Ok(Lines {
+            text,
+            from: self.from,
+            to: self.to,
+        })
+    }
 }

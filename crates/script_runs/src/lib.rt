@@ -1,13 +1,13 @@
-// A library with one function.
+//! Running the lines of a power intent script, with the files and power models that they open, to a last world or to the
+//! first refusal.
+//!
+//! What one line does to the world is done by others, whom the trait `LineSteps` stands for; here are the frames, the
+//! fetching of files and the order of faults. It meets `Ends` of `script_defs`.
 #![tactic(auto)]
 
-ghost use Rattle.std.specs.Prelude.{◌≡◌};
-ghost use Rattle.script_runs.specs.Echo.{echo_of};
+mod fetching;
+mod frames;
+mod steps;
 
-// The `ensures` clause is the contract: what `echo` returns is `echo_of` of its argument, a definition
-// in `specs/Echo.antt`, which a caller's clause can cite too.
-pub fn echo(x: usize) -> usize
-    ensures { result ≡ echo_of x }
-{
-    x
-}
+pub use frames::{Frame, Openings, Source};
+pub use steps::{LineSteps, StepFault};

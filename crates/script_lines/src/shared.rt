@@ -1,5 +1,5 @@
 //! Lines with several owners.
-ghost use Rattle.std.specs.Prelude.{◌≡◌, ◌≤◌, IfOk, length, slice_range};
+ghost use Rattle.std.specs.Prelude.{◌≡◌, ◌≤◌, ◌↔◌, [], IsTrue, IfOk, length, slice_range};
 
 use pw_defs::{Line, List, Memory};
 use std::alloc::Global;
@@ -41,6 +41,18 @@ impl Lines {
     {
         let text = self.text.as_ref().as_slice();
         &text[self.from as usize..self.to as usize]
+    }
+
+    pub fn len(&self) -> u32
+        ensures { result ≡ length self.now }
+    {
+        self.to - self.from
+    }
+
+    pub fn is_empty(&self) -> bool
+        ensures { IsTrue result ↔ (self.now ≡ []) }
+    {
+        self.len() == 0
     }
 
     /// The same lines from one place up to another, which are not copied.

@@ -1,1 +1,4 @@
 pub mod Stopping
+pub mod OpenedNames
+pub mod OpenedRoom
+pub mod LineCodes

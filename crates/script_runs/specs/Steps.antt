@@ -1,6 +1,8 @@
 -- What is asked of a call that runs a line, and of one that carries out the map of supplies behind a frame.
 use Rattle.std.specs.Prelude.{◌≡◌, List, [], Some, slice_get}
 use Rattle.pw_defs.specs.declared.design.Design.{Design}
+use Rattle.pw_defs.specs.declared.faults.LoadFault.{LoadFault}
+use Rattle.pw_defs.specs.declared.faults.LoadFault.TheVariants.{Refused as RefusedLoad, Memory as NoMemory}
 use Rattle.pw_defs.specs.declared.faults.Refusal.{Refusal}
 use Rattle.script_defs.specs.Statements.{Statement}
 use Rattle.script_defs.specs.World.{Frame, World}
@@ -41,3 +43,8 @@ pub record IsMapRefused (d : Design) (f : Frame) (w : World) (o : Opening) (r : 
 abbrev pub StopsMap : Design → Frame → World → Opening → StepFault → Type 0
 StopsMap d f w o (Refused r) = IsMapRefused d f w o r
 StopsMap d f w o Memory = Unit {0}
+
+-- why a script isn't loaded, where it is for a line
+abbrev pub load_fault : StepFault → LoadFault
+load_fault (Refused r) = RefusedLoad r
+load_fault Memory = NoMemory

@@ -1,6 +1,8 @@
 -- The frames that a line opens, in code, as the definitions see them.
-use Rattle.std.specs.Prelude.{ℕ, List, [], Option, None, Some, IsUtf8, map}
+use Rattle.std.specs.Prelude.{◌≢◌, ◌<◌, ℕ, List, [], Option, None, Some, IsUtf8, map}
 use Rattle.script_defs.specs.UnitSteps.{Opening, Source as PlainSource}
+use Rattle.script_defs.specs.World.{Frame}
+use Rattle.script_defs.specs.Runs.{Task}
 use Rattle.script_runs.specs.declared.frames.Openings.{Openings}
 use Rattle.script_runs.specs.declared.frames.Source.{Source}
 use Rattle.script_runs.specs.declared.frames.Source.TheVariants.{File, Body}
@@ -26,3 +28,11 @@ opened (Some os) = openings_in os
 abbrev pub HasText : PlainSource → Type 0
 HasText (PlainSource.file name) = IsUtf8 name
 HasText (PlainSource.body file lines) = Unit {0}
+
+-- a frame has room for those that a line of it opens, and their lines can be fetched
+abbrev pub CanOpen : Frame → Openings → Type 0
+CanOpen f os = os.homes ≢ [] → (0 < f.left) × HasText (source_view os.source)
+
+-- the frames that are opened at some of the instances, as tasks
+abbrev pub tasks_at : Openings → List (List ℕ) → List Task
+tasks_at os homes = map Task.opening (map (opening_at os) homes)

@@ -7,6 +7,7 @@
 
 mod fetching;
 mod frames;
+
 mod steps;
 
 pub use frames::{Frame, Openings, Source};

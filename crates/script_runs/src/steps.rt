@@ -3,7 +3,6 @@
 use crate::frames::{Frame, Openings};
 use pw_defs::{LoadFault, Memory, Name, Refusal};
 use script_lines::Block;
-use std::alloc::{AllocError, AllocFailed};
 
 /// Why a line isn't run.
 #[derive(Drop)]
@@ -20,6 +19,20 @@ impl From<Memory> for StepFault {
 
     fn from(_error: Memory) -> StepFault {
         StepFault::Memory
+    }
+}
+
+impl From<StepFault> for LoadFault {
+    ghost use Rattle.std.specs.Prelude.{◌≡◌};
+    ghost use Rattle.script_runs.specs.Steps.{load_fault};
+
+    ghost from_gives = { λ fault e. e ≡ load_fault fault };
+
+    fn from(fault: StepFault) -> LoadFault {
+        match fault {
+            StepFault::Refused(refusal) => LoadFault::Refused(refusal),
+            StepFault::Memory => LoadFault::Memory,
+        }
     }
 }
 

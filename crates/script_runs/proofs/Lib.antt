@@ -2,3 +2,4 @@ pub mod Stopping
 pub mod OpenedNames
 pub mod OpenedRoom
 pub mod LineCodes
+pub mod LeadingLemmas

@@ -18,7 +18,7 @@ use Rattle.script_defs.specs.Runs.{most_lines}
 use Rattle.script_defs.specs.UnitSteps.{Opening}
 use Rattle.script_runs.specs.Steps.{IsMapRefused}
 use Rattle.script_runs.proofs.OpenedNames.{all_joined}
-use Rattle.script_runs.proofs.Stopping.{is_file_code}
+use Rattle.script_runs.specs.Outcomes.{is_file_code}
 
 -- the fault is none of a file
 abbrev OfLine : LineFault → Type 0

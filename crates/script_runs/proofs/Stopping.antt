@@ -15,7 +15,7 @@ use Rattle.pw_outer.specs.declared.shelves.ShelfFault.{ShelfFault}
 use Rattle.pw_outer.specs.declared.shelves.ShelfFault.TheVariants.{TooLong}
 use Rattle.script_defs.specs.Refused.{Readers, text_refusal}
 use Rattle.script_defs.specs.Runs.{IsFileRefused, longest_file}
-use Rattle.script_runs.specs.Outcomes.{held_by, IsHeld, ShowsInCounts, StopsLoad, IsUnreadable, StopsReading, IsStopOf}
+use Rattle.script_runs.specs.Outcomes.{held_by, IsHeld, is_file_code, ShowsInCounts, StopsLoad, IsUnreadable, StopsReading, IsStopOf}
 
 -- an error by `?` is the one that was answered
 pub err_is : {T E : Type 0} (r : Result T E) (f : E) (P : E → Type 0) → IsErrAnd r (λ e. e ≡ f) → P f → IfErr r P
@@ -50,12 +50,6 @@ later_counts old mid new p q = record {
 
 pub rises : (old mid new : ℕ) → old ≤ mid → Rose mid new → Rose old new
 rises old mid new le rose = omega arith
-
--- whether a code is one of absent and of long files
-abbrev pub is_file_code : Code → Bool
-is_file_code F1 = true
-is_file_code F2 = true
-is_file_code _ = false
 
 -- another code shows in no count
 pub shows_nothing : (old new : Counts) (c : Code) → is_file_code c ≡ false → ShowsInCounts old new c

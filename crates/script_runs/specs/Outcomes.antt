@@ -1,5 +1,5 @@
 -- How calls that load scripts end over the files of a shelf, and what its counts show.
-use Rattle.std.specs.Prelude.{◌≡◌, ◌≤◌, ℕ, List, length, Option, Some, Result, Ok, Err, IfSome}
+use Rattle.std.specs.Prelude.{◌≡◌, ◌≤◌, ℕ, Bool, true, false, List, length, Option, Some, Result, Ok, Err, IfSome}
 use Rattle.plain_lists.specs.declared.faults.Memory.{Memory as OutOfMemory}
 use Rattle.pw_defs.specs.declared.faults.Code.{Code}
 use Rattle.pw_defs.specs.declared.faults.Code.TheVariants.{F1, F2}
@@ -19,6 +19,12 @@ held_by files name = file_named name files
 -- a file that is there and isn't too long
 abbrev pub IsHeld : Files → List ℕ → List ℕ → Type 0
 IsHeld files name text = (file_named name files ≡ Some text) × (length text ≤ longest_file)
+
+-- whether a code is one of files that aren't there or are too long
+abbrev pub is_file_code : Code → Bool
+is_file_code F1 = true
+is_file_code F2 = true
+is_file_code _ = false
 
 -- a file that isn't there, and one that is too long, show in the counts
 abbrev pub ShowsInCounts : Counts → Counts → Code → Type 0

@@ -36,3 +36,7 @@ CanOpen f os = os.homes ≢ [] → (0 < f.left) × HasText (source_view os.sourc
 -- the frames that are opened at some of the instances, as tasks
 abbrev pub tasks_at : Openings → List (List ℕ) → List Task
 tasks_at os homes = map Task.opening (map (opening_at os) homes)
+
+-- what a line opens, as tasks
+abbrev pub tasks_in : Option Openings → List Task
+tasks_in os = map Task.opening (opened os)

@@ -59,10 +59,13 @@ module _ (readers : Readers) where
           Ends.runs f w b tasks e s is.fine (subst R is.openings_are (subst Q is.world_is (subst P is.frame_is rest)))
 
   -- why a line stops
-  pub line_stops : (d : Design) (f : Frame) (w : World) (b : Block) (fault : StepFault) → StopsLine readers d f w b fault
-      → StopsTask readers d f w (Task.command b ∷ []) (load_fault fault)
-  line_stops d f w b (RefusedStep r) is = (λ held. record { stops = λ tasks. Ends.refused f w b tasks r is }, line_code readers d f w b r is)
-  line_stops d f w b NoMemory is = tt
+  pub line_stops : (d : Design) (f : Frame) (w : World) (b : Block) (fault : StepFault) (load : LoadFault) → load ≡ load_fault fault → StopsLine readers d f w b fault
+      → StopsTask readers d f w (Task.command b ∷ []) load
+  line_stops d f w b fault load same is = subst (StopsTask readers d f w (Task.command b ∷ [])) (sym same) (by fault is)
+    where
+      by : (x : StepFault) → StopsLine readers d f w b x → StopsTask readers d f w (Task.command b ∷ []) (load_fault x)
+      by (RefusedStep r) refused = (λ held. record { stops = λ tasks. Ends.refused f w b tasks r refused }, line_code readers d f w b r refused)
+      by NoMemory wanted = tt
 
   -- what stops whatever the files stops over those of a shelf
   pub task_stops : (held : Option Files) (d : Design) (f : Frame) (w : World) (front : List Task) (old new : Counts) (fault : LoadFault)
@@ -202,3 +205,8 @@ can_open d f w b g v os is some = (room, by os.homes refl)
     by (home ∷ homes) split =
         let P : List (List ℕ) → Type 0 = λ hs. AllByRecursion (λ (o : Opening). HasText o.source) (map (opening_at os) hs) in
         (subst P split texts).0
+
+pub opened_can : (d : Design) (f : Frame) (w : World) (b : Block) (g : Frame) (v : World) (os : Option Openings) → IsRun script_readers d f w b g v (opened os)
+    → IfSome os (CanOpen g)
+opened_can d f w b g v None is = tt
+opened_can d f w b g v (Some os) is = can_open d f w b g v os is

@@ -3,3 +3,4 @@ pub mod OpenedNames
 pub mod OpenedRoom
 pub mod LineCodes
 pub mod LeadingLemmas
+pub mod RunningLemmas

@@ -7,6 +7,7 @@
 
 mod fetching;
 mod frames;
+mod running;
 
 mod steps;
 

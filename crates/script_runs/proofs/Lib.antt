@@ -4,3 +4,4 @@ pub mod OpenedRoom
 pub mod LineCodes
 pub mod LeadingLemmas
 pub mod RunningLemmas
+pub mod ScriptLemmas

@@ -8,8 +8,10 @@
 mod fetching;
 mod frames;
 mod running;
+mod scripts;
 
 mod steps;
 
 pub use frames::{Frame, Openings, Source};
+pub use scripts::run_script;
 pub use steps::{LineSteps, StepFault};

@@ -5,3 +5,6 @@ pub mod LineCodes
 pub mod LeadingLemmas
 pub mod RunningLemmas
 pub mod ScriptLemmas
+pub mod WorkedStatements
+pub mod WorkedScripts
+pub mod AllOpenings

@@ -1,5 +1,5 @@
 -- How tasks lead to others, step by step.
-use Rattle.std.proofs.Common.{◌≡◌, ◌≢◌, ◌≤◌, ◌<◌, ◌+◌, ℕ, Bool, List, [], ◌∷◌, ◌++◌, map, length, Option, Some, None, refl, sym, ap, ◌∙◌, subst, arith}
+use Rattle.std.proofs.Common.{◌≡◌, ◌≢◌, ◌≤◌, ◌<◌, ◌+◌, ℕ, Bool, List, [], ◌∷◌, ◌++◌, map, length, Option, Some, None, refl, sym, ap, ◌∙◌, subst}
 use Rattle.std.specs.Prelude.{IfSome, drop}
 use Rattle.std.specs.List.{AllByRecursion}
 use Rattle.std.proofs.lemmas.List.{drop_all}
@@ -13,10 +13,10 @@ use Rattle.pw_outer.specs.Fetches.{Files}
 use Rattle.script_defs.specs.World.{Frame, World}
 use Rattle.script_defs.specs.Scopes.{is_modelled}
 use Rattle.script_defs.specs.Blocks.{Block, blocks_of}
-use Rattle.script_defs.specs.Refused.{Readers, IsRefused}
+use Rattle.script_defs.specs.Refused.{Readers}
 use Rattle.script_defs.specs.ReadStatements.{readers as script_readers}
 use Rattle.script_defs.specs.Steps.{world_after}
-use Rattle.script_defs.specs.UnitSteps.{Opening, Source, frame_after, frame_inside, openings_of}
+use Rattle.script_defs.specs.UnitSteps.{Opening, frame_after, frame_inside, openings_of}
 use Rattle.script_defs.specs.Runs.{Task, End, Ends, Opens, OpensLines, IsSourceRefused, most_lines, source_file, tasks_of}
 use Rattle.script_runs.specs.declared.frames.Openings.{Openings}
 use Rattle.script_runs.specs.declared.steps.StepFault.{StepFault}
@@ -28,7 +28,7 @@ use Rattle.script_runs.specs.Views.{CanOpen, HasText, opening_at, opened, source
 use Rattle.script_runs.proofs.LineCodes.{line_code}
 use Rattle.script_runs.proofs.OpenedNames.{named_by_line, opened_have_text}
 use Rattle.script_runs.proofs.OpenedRoom.{left_after, room_for_openings}
-use Rattle.script_runs.proofs.Stopping.{on_some, shows_nothing}
+use Rattle.script_runs.proofs.Stopping.{shows_nothing}
 
 pub any_some : {X : Type 0} {P : X → Type 0} (o : Option X) → ((x : X) → P x) → IfSome o P
 any_some None f = tt

@@ -1,5 +1,5 @@
 -- The refusal of a line, or of a map, has none of the codes of files.
-use Rattle.std.proofs.Common.{◌≡◌, ℕ, Bool, true, false, List, [], ◌∷◌, ◌++◌, Option, Some, None, map, filter, slice_get, refl, sym, ap, ◌∙◌, subst, cond}
+use Rattle.std.proofs.Common.{◌≡◌, ℕ, Bool, true, false, List, [], ◌∷◌, ◌++◌, Some, map, filter, slice_get, refl, sym, ap, ◌∙◌, subst, cond}
 use Rattle.std.specs.Prelude.{codes}
 use Rattle.std.specs.List.{AllByRecursion}
 use Rattle.pw_defs.specs.declared.design.Design.{Design}

@@ -1,20 +1,19 @@
 -- The files that lines open have names in UTF-8.
-use Rattle.std.proofs.Common.{◌≡◌, ◌≢◌, ℕ, Bool, true, false, List, [], ◌∷◌, ◌++◌, Option, Some, None, refl, sym, ap, ◌∙◌, subst, cond}
+use Rattle.std.proofs.Common.{◌≡◌, ℕ, Bool, true, false, List, [], ◌∷◌, ◌++◌, Option, Some, None, refl, sym, ap, ◌∙◌, subst, cond}
 use Rattle.std.specs.Prelude.{codes, IsUtf8, map, unwrap_or}
 use Rattle.std.specs.List.{AllByRecursion, filter_map, flat_map}
 use Rattle.pw_defs.specs.declared.script.Command.{Command}
 use Rattle.pw_defs.specs.declared.script.Line.{Line}
-use Rattle.list_defs.specs.Members.{same_name}
 use Rattle.list_defs.proofs.NameLemmas.{same_name-equal, same_name-itself}
 use Rattle.upf_commands.specs.CommandRows.{CommandRow}
 use Rattle.upf_commands.specs.CommandTable.{commands}
 use Rattle.upf_commands.specs.CommandWords.{Item, row_of, own, given, unknown, lacking}
-use Rattle.upf_commands.specs.Commands.{IsCommand, IsGood, IsWhole, HasItems, command_of, passed_command, own_word}
+use Rattle.upf_commands.specs.Commands.{IsCommand, IsGood, IsWhole, own_word}
 use Rattle.upf_commands.specs.Forms.{WordForm, IsWordOf}
 use Rattle.script_defs.specs.Statements.{Statement, first_of, is_command, names_of, pairs_of, subject_of}
 use Rattle.script_defs.specs.World.{Body, Frame, Object, World}
 use Rattle.script_defs.specs.Blocks.{has_first_word}
-use Rattle.script_defs.specs.ReadStatements.{IsStatement, IsStatementOf}
+use Rattle.script_defs.specs.ReadStatements.{IsStatement}
 use Rattle.script_defs.specs.UnitSteps.{Opening, Source, file_opening, body_openings, body_source, openings_of}
 use Rattle.script_defs.specs.Scopes.{path_from}
 use Rattle.script_defs.specs.LookUps.{object_at}

@@ -1,11 +1,9 @@
 -- What the calls that run lines lead to, over the files of a shelf.
 use Rattle.std.proofs.Common.{◌≡◌, ◌≤◌, ◌<◌, ◌+◌, ◌-◌, ℕ, Bool, List, [], ◌∷◌, length, get_or, Option, Some, None, Result, refl, sym, ap, ◌∙◌, subst, arith}
-use Rattle.std.specs.Prelude.{IfSome, IfOk, OnOk, IfErr, drop}
+use Rattle.std.specs.Prelude.{IfSome, OnOk, IfErr, drop}
 use Rattle.std.proofs.lemmas.List.{drop_more}
 use Rattle.pw_defs.specs.declared.design.Design.{Design}
 use Rattle.pw_defs.specs.declared.faults.LoadFault.{LoadFault}
-use Rattle.pw_defs.specs.declared.faults.LoadFault.TheVariants.{Refused, Outside, Memory}
-use Rattle.pw_defs.specs.declared.faults.Refusal.{Refusal}
 use Rattle.pw_defs.specs.declared.script.Line.{Line}
 use Rattle.pw_outer.specs.Counts.{Counts, NoneFalls}
 use Rattle.pw_outer.specs.Fetches.{Files}
@@ -13,7 +11,7 @@ use Rattle.script_defs.specs.World.{Frame, World}
 use Rattle.script_defs.specs.Scopes.{is_modelled}
 use Rattle.script_defs.specs.Blocks.{Block, blocks_of}
 use Rattle.script_defs.specs.Refused.{Readers}
-use Rattle.script_defs.specs.UnitSteps.{Opening, frame_inside}
+use Rattle.script_defs.specs.UnitSteps.{frame_inside}
 use Rattle.script_defs.specs.Runs.{Task, OpensLines, IsSourceRefused, source_file, tasks_of}
 use Rattle.script_runs.specs.declared.frames.Openings.{Openings}
 use Rattle.script_runs.specs.declared.steps.StepFault.{StepFault}
@@ -24,7 +22,7 @@ use Rattle.script_runs.specs.Steps.{IsMapped, StopsMap, load_fault}
 use Rattle.script_runs.specs.Views.{opening_at, source_view, tasks_at, tasks_in}
 use Rattle.script_runs.proofs.LineCodes.{map_code}
 use Rattle.script_runs.proofs.LeadingLemmas.{any_some, on_both, goes_on_after, goes_on_past, inside_goes_on, inside_stops, lines_over, lines_past, lines_stop, map_stops, opens_so, stops_past, stops_then, told_before, unopened_stops}
-use Rattle.script_runs.proofs.Stopping.{on_err, on_ok, on_some, same_counts, shown_later, shows_nothing, stops_after}
+use Rattle.script_runs.proofs.Stopping.{on_err, on_ok, on_some, same_counts, shows_nothing, stops_after}
 
 -- what is told of a list's rest, at its first item
 rest_is : {X : Type 0} (xs : List X) (i : ℕ) (x : X) → i < length xs → x ≡ get_or xs i x → drop i xs ≡ x ∷ drop (i + 1) xs

@@ -1,6 +1,6 @@
 -- Why calls stop over the files of a shelf.
-use Rattle.std.proofs.Common.{◌≡◌, ◌≢◌, ◌+◌, ◌≤◌, ◌<◌, ℕ, Bool, true, false, List, Option, Some, None, Result, Ok, Err, length, refl, sym, ap, ◌∙◌, subst, arith}
-use Rattle.std.specs.Prelude.{take, IfSome, IfOk, IfErr, IsSomeAnd, IsErrAnd}
+use Rattle.std.proofs.Common.{◌≡◌, ◌≢◌, ◌≤◌, ℕ, false, List, Option, Some, None, Result, Ok, Err, refl, sym, ap, subst, arith}
+use Rattle.std.specs.Prelude.{IfSome, IfOk, IfErr, IsSomeAnd, IsErrAnd}
 use Rattle.plain_lists.specs.declared.faults.Memory.{Memory as OutOfMemory}
 use Rattle.pw_defs.specs.declared.faults.Code.{Code}
 use Rattle.pw_defs.specs.declared.faults.Code.TheVariants.{F1, F2, T1, T2, T3, T4}
@@ -14,8 +14,8 @@ use Rattle.pw_outer.specs.Fetches.{Files, Fetched, HasFetchCause, file_named}
 use Rattle.pw_outer.specs.declared.shelves.ShelfFault.{ShelfFault}
 use Rattle.pw_outer.specs.declared.shelves.ShelfFault.TheVariants.{TooLong}
 use Rattle.script_defs.specs.Refused.{Readers, text_refusal}
-use Rattle.script_defs.specs.Runs.{IsFileRefused, longest_file}
-use Rattle.script_runs.specs.Outcomes.{held_by, IsHeld, is_file_code, ShowsInCounts, StopsLoad, IsUnreadable, StopsReading, IsStopOf}
+use Rattle.script_defs.specs.Runs.{IsFileRefused}
+use Rattle.script_runs.specs.Outcomes.{held_by, IsHeld, is_file_code, ShowsInCounts, StopsLoad, StopsReading, IsStopOf}
 
 -- an error by `?` is the one that was answered
 pub err_is : {T E : Type 0} (r : Result T E) (f : E) (P : E → Type 0) → IsErrAnd r (λ e. e ≡ f) → P f → IfErr r P

@@ -1,8 +1,8 @@
 -- What is asked of the steps is met by the lines of the chip's script and of its macro's, which it loads, and so the script
 -- runs to its world.
-use Rattle.std.proofs.Common.{◌≡◌, ℕ, Bool, true, false, List, [], ◌∷◌, ◌++◌, map, length, Option, Some, None, refl, inl, inr, subst, sym, ap, lit≤}
+use Rattle.std.proofs.Common.{◌≡◌, ℕ, true, false, List, [], ◌∷◌, ◌++◌, map, Option, Some, None, refl, lit≤}
 use Rattle.std.specs.Prelude.{codes, take, drop}
-use Rattle.std.specs.List.{AllZip, zip}
+use Rattle.std.specs.List.{zip}
 use Rattle.pw_defs.specs.declared.design.Design.{Design}
 use Rattle.pw_defs.specs.declared.faults.Code.{Code}
 use Rattle.pw_defs.specs.declared.faults.Refusal.{Refusal}
@@ -16,20 +16,19 @@ use Rattle.worked_jobs.specs.Texts.{chip_script, macro_script}
 use Rattle.script_defs.specs.Statements.{Statement}
 use Rattle.script_defs.specs.World.{Frame, World}
 use Rattle.script_defs.specs.Blocks.{Block}
-use Rattle.script_defs.specs.LineFaults.{early_faults, line_faults, map_faults}
+use Rattle.script_defs.specs.LineFaults.{early_faults, line_faults}
 use Rattle.script_defs.specs.Refused.{body_faults}
 use Rattle.script_defs.specs.ReadStatements.{IsStatement, readers}
 use Rattle.script_defs.specs.Steps.{world_after}
-use Rattle.script_defs.specs.UnitSteps.{Opening, Source as PlainSource, frame_after, openings_of, after_map}
-use Rattle.script_defs.specs.Runs.{Task, End, Ends, IsFileRefused, Opens, fresh, first_frame, longest_file, most_lines, tasks_of}
+use Rattle.script_defs.specs.UnitSteps.{frame_after, openings_of}
+use Rattle.script_defs.specs.Runs.{Task, End, Ends, IsFileRefused, Opens, fresh, most_lines}
 use Rattle.script_defs.specs.Loads.{LastWorld}
 use Rattle.script_defs.specs.Worked.{chip_statements, chip_connections, macro_statements}
 use Rattle.script_defs.proofs.Behind.{world_behind, chip_frame, macro_frame, before_macro, behind_macro, chip_world}
 use Rattle.script_defs.proofs.WorkedRuns.{Pairs, plain}
 use Rattle.script_runs.specs.declared.frames.Openings.{Openings}
-use Rattle.script_runs.specs.declared.frames.Source.{Source}
-use Rattle.script_runs.specs.declared.frames.Source.TheVariants.{File, Body}
-use Rattle.script_runs.specs.Leading.{GoesOn, StopsAt, LinesRun}
+use Rattle.script_runs.specs.declared.frames.Source.TheVariants.{File}
+use Rattle.script_runs.specs.Leading.{GoesOn, LinesRun}
 use Rattle.script_runs.specs.Outcomes.{held_by}
 use Rattle.script_runs.specs.Scripts.{HasStop}
 use Rattle.script_runs.specs.Steps.{IsRun, IsMapped}

@@ -139,6 +139,6 @@ fn run_inside<S: Shelf, L: LineSteps>(
     let lines = open_lines(alloc, shelf, &openings.source, modelled)?;
     let inside = inner_frame(alloc, frame, openings, home)?;
     run_lines(alloc, shelf, steps, inside, &lines)?;
-    steps.map(frame, openings, home)?;
+    steps.map_supplies(frame, openings, home)?;
     Ok(())
 }

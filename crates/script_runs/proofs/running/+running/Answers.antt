@@ -3,7 +3,7 @@ use Rattle.std.proofs.Common.{refl, ap, ◌∙◌, arith}
 use Rattle.script_defs.specs.ReadStatements.{readers}
 use Rattle.script_defs.specs.Scopes.{is_modelled}
 use Rattle.script_runs.specs.Steps.{load_fault}
-use Rattle.script_runs.proofs.Stopping.{err_is, later_counts, same_counts}
+use Rattle.script_runs.proofs.Stopping.{err_is, later_counts}
 use Rattle.script_runs.proofs.RunningLemmas.{all_lines_run, block_runs, block_stops, frame_runs, lines_go_on, lines_inside_stop, lines_stop_here, map_refused, no_lines, openings_past, openings_stop, plain_runs}
 use Rattle.script_runs.proofs.running.+running.Goals as goal
 
@@ -29,16 +29,16 @@ run_inside-returns-in_err-run_lines-clause-stop g t c =
     (lines_inside_stop readers _ _ _ _ c.args.openings.now c.args.home.now c.is_modelled-modelled.result (c.is_modelled-modelled.ensures ∙ ap (is_modelled (g.L.LineSteps.design c.args.steps.now)) c.as_slice.ensures.bytes) c.requires.room _ c.in_ok-lines.ensures.lines _ c.in_ok-inside.ensures
     _ c.in_ok-lines.ensures.same _ _ _ c.in_ok-lines.ensures.counts c.in_err-run_lines.field-0.0 c.in_err-run_lines.ensures.stop)
 
-pub run_inside-returns-in_err-map-clause-stop : goal.run_inside-returns-in_err-map-clause-stop
-run_inside-returns-in_err-map-clause-stop g t c =
-    err_is c.from_residual-in_err-map.result (load_fault c.in_err-map.field-0.0) _ c.from_residual-in_err-map.ensures.1
+pub run_inside-returns-in_err-map_supplies-clause-stop : goal.run_inside-returns-in_err-map_supplies-clause-stop
+run_inside-returns-in_err-map_supplies-clause-stop g t c =
+    err_is c.from_residual-in_err-map_supplies.result (load_fault c.in_err-map_supplies.field-0.0) _ c.from_residual-in_err-map_supplies.ensures.1
     (map_refused readers _ _ _ _ c.args.openings.now c.args.home.now c.is_modelled-modelled.result (c.is_modelled-modelled.ensures ∙ ap (is_modelled (g.L.LineSteps.design c.args.steps.now)) c.as_slice.ensures.bytes) c.requires.room _ c.in_ok-lines.ensures.lines _ c.in_ok-inside.ensures
-    _ c.in_ok-lines.ensures.same _ c.in_ok-run_lines.ensures.design _ c.in_ok-run_lines.ensures.runs _ _ c.in_err-map.field-0.0 _ refl c.in_err-map.ensures.stop)
+    _ c.in_ok-lines.ensures.same _ c.in_ok-run_lines.ensures.design _ c.in_ok-run_lines.ensures.runs _ _ c.in_err-map_supplies.field-0.0 _ refl c.in_err-map_supplies.ensures.stop)
 
 pub run_inside-returns-clause-runs : goal.run_inside-returns-clause-runs
 run_inside-returns-clause-runs g t c =
     frame_runs readers _ _ _ _ c.args.openings.now c.args.home.now c.is_modelled-modelled.result (c.is_modelled-modelled.ensures ∙ ap (is_modelled (g.L.LineSteps.design c.args.steps.now)) c.as_slice.ensures.bytes) c.requires.room _ c.in_ok-lines.ensures.lines _ c.in_ok-inside.ensures
-    _ c.in_ok-lines.ensures.same _ c.in_ok-run_lines.ensures.design _ _ c.in_ok-run_lines.ensures.runs c.in_ok-map.ensures.mapped
+    _ c.in_ok-lines.ensures.same _ c.in_ok-run_lines.ensures.design _ _ c.in_ok-run_lines.ensures.runs c.in_ok-map_supplies.ensures.mapped
 
 pub run_lines-returns-in_err-run_block-clause-stop : goal.run_lines-returns-in_err-run_block-clause-stop
 run_lines-returns-in_err-run_block-clause-stop g t c =

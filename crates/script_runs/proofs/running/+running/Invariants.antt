@@ -1,5 +1,5 @@
 -- The frames that may still be opened, and what is done so far.
-use Rattle.std.proofs.Common.{◌≡◌, ◌+◌, ◌-◌, ◌*◌, ◌≤◌, [], length}
+use Rattle.std.proofs.Common.{◌≡◌, ◌+◌, ◌-◌, ◌*◌, ◌≤◌, length}
 use Rattle.std.specs.Prelude.{IfSome, drop}
 use Rattle.pw_outer.specs.Counts.{NoneFalls}
 use Rattle.script_defs.specs.ReadStatements.{readers}

@@ -1,9 +1,9 @@
 -- Lines put together, at the front of what is left.
-use Rattle.std.proofs.Common.{◌≡◌, ℕ, ◌+◌, ◌-◌, ◌<◌, ◌≤◌, Bool, true, false, List, [], ◌∷◌, ◌++◌, Some, None, cond, get_or, length, refl, sym, ap, ◌∙◌, subst, arith}
+use Rattle.std.proofs.Common.{◌≡◌, ℕ, ◌+◌, ◌-◌, ◌<◌, ◌≤◌, true, false, List, [], ◌∷◌, ◌++◌, Some, None, cond, get_or, length, sym, ap, ◌∙◌, arith}
 use Rattle.std.specs.Prelude.{slice_range, take, drop}
 use Rattle.std.proofs.lemmas.List.{drop_more, drop_all, take_more, length-drop, get_or-drop}
 use Rattle.pw_defs.specs.declared.script.Line.{Line}
-use Rattle.script_defs.specs.Blocks.{Block, blocks_of, blocks_behind, begins_model, ends_model}
+use Rattle.script_defs.specs.Blocks.{blocks_of, blocks_behind, begins_model, ends_model}
 use Rattle.script_lines.specs.Taken.{IsTaken, IsBodyOf}
 
 -- a range that ends one place later

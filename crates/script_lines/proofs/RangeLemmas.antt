@@ -1,7 +1,7 @@
 -- Parts of a list from one place up to another.
 use Rattle.std.proofs.Common.{◌≡◌, ℕ, ◌+◌, ◌-◌, ◌≤◌, List, length, sym, ap, ◌∙◌, arith}
 use Rattle.std.specs.Prelude.{slice_range, take, drop}
-use Rattle.std.proofs.lemmas.List.{take-take, drop-drop, drop-take, length-take, length-drop}
+use Rattle.std.proofs.lemmas.List.{take-take, drop-drop, drop-take, length-take}
 
 -- a part is no longer than its ends are apart
 pub range_fits : {X : Type 0} (xs : List X) (i j n : ℕ) → n ≤ length (slice_range xs i j) → n ≤ j - i

@@ -119,9 +119,11 @@ module _ (readers : Readers) where
         let P : Design → Type 0 = λ y. GoesOn readers held y g v (Task.command b ∷ []) h u [] in
         let q' = subst P same q in
         let tasks : Task.command b ∷ tasks_of left ≡ tasks_of lines = ap (map Task.command) (sym first) in
-        record { ends = λ e rest.
-            let Q : List Task → Type 0 = λ ts. Ends readers held most_lines d g v ts e in
-            p.ends e (subst Q tasks ((q'.leads (tasks_of left)).ends e rest)) }
+        record {
+          ends = λ e rest.
+              let Q : List Task → Type 0 = λ ts. Ends readers held most_lines d g v ts e in
+              p.ends e (subst Q tasks ((q'.leads (tasks_of left)).ends e rest));
+        }
 
     pub lines_stop : (d' : Design) → d' ≡ d → (f : Frame) (w : World) (all : List Task) (g : Frame) (v : World) (lines : List Line) (b : Block) (left : List Line) (r : Refusal)
         → blocks_of lines ≡ b ∷ blocks_of left → Leads readers held d f w all g v (tasks_of lines) → StopsAt readers held d' g v (Task.command b ∷ []) r

@@ -132,12 +132,11 @@ module _ (readers : Readers) (held : Option Files) (d : Design) (f : Frame) (w :
       where
         by : (x : StepFault) → StopsMap d f u (opening_at os home) x
             → StopsLoad held (λ files. StopsAt readers (held_by files) d f w (tasks_at os (home ∷ []))) old new (load_fault x)
-        by (RefusedStep r) refused =
-            (
-              on_both held (λ files p q. map_stops readers (held_by files) d f w (opening_at os home) lines (f.left - 1) left_is
+        by (RefusedStep r) refused = (
+          on_both held (λ files p q. map_stops readers (held_by files) d f w (opening_at os home) lines (f.left - 1) left_is
               (opens_so readers (held_by files) d (opening_at os home) modelled lines same p) inside inside_is u r q refused) opens (told_before _ held mid same_held ran),
-              shows_nothing old new r.code (map_code d f u (opening_at os home) r refused)
-            )
+          shows_nothing old new r.code (map_code d f u (opening_at os home) r refused),
+        )
         by NoMemory wanted = tt
 
     pub frame_runs : (mid : Option Files) → mid ≡ held → (d' : Design) → d' ≡ d → (u v : World) → IfSome mid (λ files. LinesRun readers (held_by files) d inside w lines u)

@@ -82,38 +82,35 @@ macro_eight = world_behind chip macro_frame before_macro (take 8 macro_statement
 
 last_macro_run : AreRun chip macro_frame macro_eight (drop 8 macro_pairs)
 last_macro_run =
-    let is = macro_lines_are_statements in
-    (
+    let is = macro_lines_are_statements in (
       plain_is_run chip macro_frame macro_eight _ _ is.1.1.1.1.1.1.1.1.0 refl refl refl refl,
-      (plain_is_run chip macro_frame _ _ _ is.1.1.1.1.1.1.1.1.1.0 refl refl refl refl, tt)
+      (plain_is_run chip macro_frame _ _ _ is.1.1.1.1.1.1.1.1.1.0 refl refl refl refl, tt),
     )
 
 next_macro_run : AreRun chip macro_frame macro_four (drop 4 macro_pairs)
 next_macro_run =
-    let is = macro_lines_are_statements in
-    (
+    let is = macro_lines_are_statements in (
       plain_is_run chip macro_frame macro_four _ _ is.1.1.1.1.0 refl refl refl refl,
       (
         plain_is_run chip macro_frame _ _ _ is.1.1.1.1.1.0 refl refl refl refl,
         (
           plain_is_run chip macro_frame _ _ _ is.1.1.1.1.1.1.0 refl refl refl refl,
-          (plain_is_run chip macro_frame _ _ _ is.1.1.1.1.1.1.1.0 refl refl refl refl, last_macro_run)
-        )
-      )
+          (plain_is_run chip macro_frame _ _ _ is.1.1.1.1.1.1.1.0 refl refl refl refl, last_macro_run),
+        ),
+      ),
     )
 
 macro_run : AreRun chip macro_frame before_macro macro_pairs
 macro_run =
-    let is = macro_lines_are_statements in
-    (
+    let is = macro_lines_are_statements in (
       plain_is_run chip macro_frame before_macro _ _ is.0 refl refl refl refl,
       (
         plain_is_run chip macro_frame _ _ _ is.1.0 refl refl refl refl,
         (
           plain_is_run chip macro_frame _ _ _ is.1.1.0 refl refl refl refl,
-          (plain_is_run chip macro_frame _ _ _ is.1.1.1.0 refl refl refl refl, next_macro_run)
-        )
-      )
+          (plain_is_run chip macro_frame _ _ _ is.1.1.1.0 refl refl refl refl, next_macro_run),
+        ),
+      ),
     )
 
 macro_runs : (held : List ℕ → Option (List ℕ)) → LinesRun readers held chip macro_frame before_macro macro_lines behind_macro
@@ -131,33 +128,30 @@ chip_six = world_behind chip chip_frame (fresh chip) (take 6 chip_statements)
 
 next_chip_run : AreRun chip chip_frame chip_four (take 2 (drop 4 chip_pairs))
 next_chip_run =
-    let is = chip_lines_are_statements in
-    (
+    let is = chip_lines_are_statements in (
       plain_is_run chip chip_frame chip_four _ _ is.1.1.1.1.0 refl refl refl refl,
-      (plain_is_run chip chip_frame _ _ _ is.1.1.1.1.1.0 refl refl refl refl, tt)
+      (plain_is_run chip chip_frame _ _ _ is.1.1.1.1.1.0 refl refl refl refl, tt),
     )
 
 chip_run : AreRun chip chip_frame (fresh chip) (take 6 chip_pairs)
 chip_run =
-    let is = chip_lines_are_statements in
-    (
+    let is = chip_lines_are_statements in (
       plain_is_run chip chip_frame (fresh chip) _ _ is.0 refl refl refl refl,
       (
         plain_is_run chip chip_frame _ _ _ is.1.0 refl refl refl refl,
         (
           plain_is_run chip chip_frame _ _ _ is.1.1.0 refl refl refl refl,
-          (plain_is_run chip chip_frame _ _ _ is.1.1.1.0 refl refl refl refl, next_chip_run)
-        )
-      )
+          (plain_is_run chip chip_frame _ _ _ is.1.1.1.0 refl refl refl refl, next_chip_run),
+        ),
+      ),
     )
 
 -- and those behind it
 last_chip_run : AreRun chip chip_frame behind_macro (drop 7 chip_pairs)
 last_chip_run =
-    let is = chip_lines_are_statements in
-    (
+    let is = chip_lines_are_statements in (
       plain_is_run chip chip_frame behind_macro _ _ is.1.1.1.1.1.1.1.0 refl refl refl refl,
-      (plain_is_run chip chip_frame _ _ _ is.1.1.1.1.1.1.1.1.0 refl refl refl refl, tt)
+      (plain_is_run chip chip_frame _ _ _ is.1.1.1.1.1.1.1.1.0 refl refl refl refl, tt),
     )
 
 -- THE LINE THAT LOADS
@@ -204,7 +198,7 @@ chip_script_runs = record {
       let tasks : List Task = map (λ (p : Line × Statement). plain p.0) (drop 7 chip_pairs) in
       let inside = (load_leads.leads tasks).ends (End.ran chip_world) behind in
       let loaded = ((line_goes_on readers held chip chip_frame chip_six load_block chip_frame before_macro (opened (Some load_openings)) load_is_run).leads tasks).ends
-          (End.ran chip_world) inside in
+      (End.ran chip_world) inside in
       lines_lead held chip chip_frame (fresh chip) (take 6 chip_pairs) (Task.command load_block ∷ tasks) (End.ran chip_world) chip_run loaded;
 }
 
@@ -216,7 +210,7 @@ stops_there held r refused =
     let tasks : List Task = map (λ (p : Line × Statement). plain p.0) (drop 7 chip_pairs) in
     let stop = (unopened_stops readers held chip chip_frame before_macro (opening_at load_openings (codes "m")) false r refl refused).stops tasks in
     let loaded = ((line_goes_on readers held chip chip_frame chip_six load_block chip_frame before_macro (opened (Some load_openings)) load_is_run).leads tasks).ends
-        (End.stopped r) stop in
+    (End.stopped r) stop in
     HasStop.stops chip_lines chip_script_read (lines_lead held chip chip_frame (fresh chip) (take 6 chip_pairs) (Task.command load_block ∷ tasks) (End.stopped r)
     chip_run loaded)
 

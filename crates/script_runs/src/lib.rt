@@ -9,7 +9,6 @@ mod fetching;
 mod frames;
 mod running;
 mod scripts;
-
 mod steps;
 
 pub use frames::{Frame, Openings, Source};

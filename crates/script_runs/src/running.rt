@@ -104,7 +104,7 @@ fn run_openings<S: Shelf, L: LineSteps>(
         frame.now (L.world steps.old) (tasks_at openings.now openings.now.homes) frame.now (L.world steps.new) [])) }
     ensures stop { IfErr result (λ fault. StopsLoad (S.holds shelf.old)
         (λ files. StopsAt readers (held_by files) (L.design steps.old)
-            frame.now (L.world steps.old) (tasks_at openings.now openings.now.homes))
+        frame.now (L.world steps.old) (tasks_at openings.now openings.now.homes))
         (S.counts shelf.old) (S.counts shelf.new) fault) }
 {
     for home in openings.homes.as_slice() {
@@ -132,7 +132,7 @@ fn run_inside<S: Shelf, L: LineSteps>(
         frame.now (L.world steps.old) (tasks_at openings.now (home.now ∷ [])) frame.now (L.world steps.new) [])) }
     ensures stop { IfErr result (λ fault. StopsLoad (S.holds shelf.old)
         (λ files. StopsAt readers (held_by files) (L.design steps.old)
-            frame.now (L.world steps.old) (tasks_at openings.now (home.now ∷ [])))
+        frame.now (L.world steps.old) (tasks_at openings.now (home.now ∷ [])))
         (S.counts shelf.old) (S.counts shelf.new) fault) }
 {
     let modelled = steps.is_modelled(home.as_slice());

@@ -66,7 +66,12 @@ pub trait LineSteps {
     /// Carries out the map of supplies behind a frame that a line of this frame opened at an instance.
     ///
     /// After an error the world isn't used again.
-    fn map_supplies(&mut self, frame: &Frame, openings: &Openings, home: &Name) -> Result<(), StepFault>
+    fn map_supplies(
+        &mut self,
+        frame: &Frame,
+        openings: &Openings,
+        home: &Name,
+    ) -> Result<(), StepFault>
         ensures same { design self.new ≡ design self.old }
         ensures mapped { OnOk result (IsMapped (design self.old) frame.now (world self.old) (opening_at openings.now home.now) (world self.new)) }
         ensures stop { IfErr result (StopsMap (design self.old) frame.now (world self.old) (opening_at openings.now home.now)) };

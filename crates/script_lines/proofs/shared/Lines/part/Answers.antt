@@ -1,5 +1,5 @@
 -- The ends of a part of the text's part are within the text.
-use Rattle.std.proofs.Common.{◌≡◌, ◌+◌, arith, ap, ◌∙◌, subst, ℕ, List, length, ◌≤◌}
+use Rattle.std.proofs.Common.{◌≡◌, ◌+◌, arith, ap, ◌∙◌, List}
 use Rattle.std.specs.Prelude.{slice_range}
 use Rattle.pw_defs.specs.declared.script.Line.{Line}
 use Rattle.script_lines.proofs.RangeLemmas.{range_fits, range_of_range}

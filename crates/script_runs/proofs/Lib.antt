@@ -1,0 +1,10 @@
+pub mod Stopping
+pub mod OpenedNames
+pub mod OpenedRoom
+pub mod LineCodes
+pub mod LeadingLemmas
+pub mod RunningLemmas
+pub mod ScriptLemmas
+pub mod WorkedStatements
+pub mod WorkedScripts
+pub mod AllOpenings

@@ -1,6 +1,6 @@
 //! What stands in a statement.
 ghost use Rattle.std.specs.Prelude.{◌≡◌, ◌++◌, IfOk, OnOk, map, option_map, option_to_list};
-ghost use Rattle.script_defs.specs.Statements.{names_in, pairs_in, truth_in, volts_in, values_in, described_in, is_given, is_true, name_of, names_of, pairs_of, subject_of};
+ghost use Rattle.script_defs.specs.Statements.{names_in, pairs_in, truth_in, volts_in, values_in, described_in, clauses_of, is_given, is_true, name_of, names_of, pairs_of, subject_of};
 ghost use Rattle.upf_statements.specs.Views.{option_view, pairs_view, texts_view};
 
 use crate::statements::{Clause, Parts, StateOption, Statement};
@@ -120,6 +120,19 @@ impl Statement {
             }
         }
         false
+    }
+
+    /// The clauses of an option, in order.
+    pub fn clauses_of(&self, alloc: Global, option: &[u8]) -> Result<Vec<&Clause>, Memory>
+        ensures { IfOk result (λ clauses. map (λ c. c.now) clauses.items ≡ clauses_of option.now self.now.clauses) }
+    {
+        let mut clauses = Vec::new(alloc);
+        for clause in self.clauses.as_slice() {
+            if option == clause.option.as_slice() {
+                clauses.push(clause)?;
+            }
+        }
+        Ok(clauses)
     }
 
     /// The name that an option gives, the first where it gives more.
